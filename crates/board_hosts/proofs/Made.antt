@@ -11,7 +11,7 @@ use Rattle.core_seats.specs.Loads.{is_on, CanLoad}
 use Rattle.core_seats.specs.Posts.{Mail}
 use Rattle.core_alloc.specs.Places.{Places}
 use Rattle.board_hosts.specs.Boards.{ArePorts}
-use Rattle.board_hosts.specs.CoreHosts.{AreMade, IsLoaded, IsRoot, IsOther, root_core, is_other, other_cores}
+use Rattle.board_hosts.specs.CoreHosts.{AreMade, IsLoadedHost, IsRoot, IsOther, root_core, is_other, other_cores}
 
 none_there : (l : List Hosted) (i : ℕ) (x : Hosted) → l ≡ [] → slice_get l i ≡ Some x → ⊥
 none_there [] zero x e at = cc
@@ -67,7 +67,7 @@ next_with : (places : List ℕ) (n : ℕ) → is_other places n ≡ true → oth
 next_with places n is = ap (λ b. other_cores places n ++ cond b (n ∷ []) []) is
 
 -- the host of another core than thread 0's
-pub lacks : (code : CodeParts) (placement : Places) (n : ℕ) (h : Hosted) → (n ≡ root_core placement.places → ⊥) → IsLoaded code placement n h → is_here h 0 ≡ false
+pub lacks : (code : CodeParts) (placement : Places) (n : ℕ) (h : Hosted) → (n ≡ root_core placement.places → ⊥) → IsLoadedHost code placement n h → is_here h 0 ≡ false
 lacks code placement n h other loaded =
     ap (λ p. is_on p h.cores 0) loaded.places ∙ ap (λ cores. is_on placement.places cores 0) loaded.cores ∙ either (n == root_core placement.places) (grind (arith, nat_tests))
   where
@@ -83,14 +83,14 @@ module _ (code : CodeParts) (placement : Places) (n : ℕ) (root : Option Hosted
   same_others is = let one : suc n ≡ n + 1 = omega arith in
       made.cores ∙ ap (map (λ core. core ∷ [])) (sym (next_without places n is) ∙ ap (other_cores places) one)
 
-  later : (o : Option Hosted) → (n ≡ root_core places → ⊥) → MatchOption o (n ≤ root_core places) (λ h. IsLoaded code placement (root_core places) h)
-      → MatchOption o (n + 1 ≤ root_core places) (λ h. IsLoaded code placement (root_core places) h)
+  later : (o : Option Hosted) → (n ≡ root_core places → ⊥) → MatchOption o (n ≤ root_core places) (λ h. IsLoadedHost code placement (root_core places) h)
+      → MatchOption o (n + 1 ≤ root_core places) (λ h. IsLoadedHost code placement (root_core places) h)
   later None other le = omega (arith, le, other)
   later (Some h) other is = is
 
-  pub made_root : (h : Hosted) → n ≡ root_core places → IsLoaded code placement n h → AreMade code placement (n + 1) (Some h) others
+  pub made_root : (h : Hosted) → n ≡ root_core places → IsLoadedHost code placement n h → AreMade code placement (n + 1) (Some h) others
   made_root h here loaded = record {
-    root = subst (λ m. IsLoaded code placement m h) here loaded;
+    root = subst (λ m. IsLoadedHost code placement m h) here loaded;
     others = made.others;
     cores = same_others (root_itself places n here);
   }
@@ -102,7 +102,7 @@ module _ (code : CodeParts) (placement : Places) (n : ℕ) (root : Option Hosted
     cores = same_others (empty_core places n empty);
   }
 
-  pub made_other : (h : Hosted) → (n ≡ root_core places → ⊥) → contains n places ≡ true → IsLoaded code placement n h → AreMade code placement (n + 1) root (others ++ h ∷ [])
+  pub made_other : (h : Hosted) → (n ≡ root_core places → ⊥) → contains n places ≡ true → IsLoadedHost code placement n h → AreMade code placement (n + 1) root (others ++ h ∷ [])
   made_other h other has loaded = let one : suc n ≡ n + 1 = omega arith in record {
     root = later root other made.root;
     others = λ i x at. ⊎_elim
@@ -115,13 +115,13 @@ module _ (code : CodeParts) (placement : Places) (n : ℕ) (root : Option Hosted
   }
 
   pub root_made : root_core places < n → root ≡ None → ⊥
-  root_made below none = let le = subst (λ (o : Option Hosted). MatchOption o (n ≤ root_core places) (λ h. IsLoaded code placement (root_core places) h)) none made.root in omega (arith, le, below)
+  root_made below none = let le = subst (λ (o : Option Hosted). MatchOption o (n ≤ root_core places) (λ h. IsLoadedHost code placement (root_core places) h)) none made.root in omega (arith, le, below)
 
-  pub root_is : (h : Hosted) → root ≡ Some h → IsLoaded code placement (root_core places) h
-  root_is h is = subst (λ (o : Option Hosted). MatchOption o (n ≤ root_core places) (λ x. IsLoaded code placement (root_core places) x)) is made.root
+  pub root_is : (h : Hosted) → root ≡ Some h → IsLoadedHost code placement (root_core places) h
+  root_is h is = subst (λ (o : Option Hosted). MatchOption o (n ≤ root_core places) (λ x. IsLoadedHost code placement (root_core places) x)) is made.root
 
 -- thread 0 is on its own core
-pub root_here : (code : CodeParts) (placement : Places) (h : Hosted) → IsLoaded code placement (root_core placement.places) h → is_here h 0 ≡ true
+pub root_here : (code : CodeParts) (placement : Places) (h : Hosted) → IsLoadedHost code placement (root_core placement.places) h → is_here h 0 ≡ true
 root_here code placement h loaded =
     ap (λ p. is_on p h.cores 0) loaded.places ∙ ap (λ cores. is_on placement.places cores 0) loaded.cores ∙ either (root_core placement.places == root_core placement.places) (grind (arith, nat_tests))
   where
@@ -130,7 +130,7 @@ root_here code placement h loaded =
     either false e = cc
 
 -- the host that was made for thread 0's core
-pub is_root : (code : CodeParts) (placement : Places) (h : Hosted) → IsLoaded code placement (root_core placement.places) h → IsRoot code placement h
+pub is_root : (code : CodeParts) (placement : Places) (h : Hosted) → IsLoadedHost code placement (root_core placement.places) h → IsRoot code placement h
 is_root code placement h loaded = let here = root_here code placement h loaded in
     record { code = loaded.code; places = loaded.places; cores = loaded.cores; rope = loaded.rope; here = here; none = loaded.none here }
 

@@ -22,7 +22,7 @@ other_cores places zero = []
 other_cores places (suc n) = other_cores places n ++ cond (is_other places n) (n ∷ []) []
 
 -- the host of a core's threads, with the core's new rope, before the first tick
-pub record IsLoaded (c : CodeParts) (placement : Places) (core : ℕ) (h : Hosted) : Type 0 where
+pub record IsLoadedHost (c : CodeParts) (placement : Places) (core : ℕ) (h : Hosted) : Type 0 where
   pub code : h.code ≡ c
   pub places : h.places ≡ placement.places
   pub cores : h.cores ≡ core ∷ []
@@ -53,7 +53,7 @@ pub record IsOther (c : CodeParts) (placement : Places) (h : Hosted) : Type 0 wh
 
 -- Of the first n cores each that has threads has a host. That of thread 0's core stands apart from the others.
 pub record AreMade (c : CodeParts) (placement : Places) (n : ℕ) (first : Option Hosted) (made : List Hosted) : Type 0 where
-  pub root : MatchOption first (n ≤ root_core placement.places) (λ h. IsLoaded c placement (root_core placement.places) h)
+  pub root : MatchOption first (n ≤ root_core placement.places) (λ h. IsLoadedHost c placement (root_core placement.places) h)
   pub others : (i : ℕ) (h : Hosted) → slice_get made i ≡ Some h → IsOther c placement h
   pub cores : map (λ h. h.cores) made ≡ map (λ core. core ∷ []) (other_cores placement.places n)
 

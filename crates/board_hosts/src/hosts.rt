@@ -8,7 +8,7 @@ ghost use Rattle.core_machine.specs.Room.{AreNeeds};
 ghost use Rattle.core_seats.specs.Loads.{CanLoad};
 ghost use Rattle.core_host.specs.Hosted.{Hosted};
 ghost use Rattle.board_hosts.specs.Boards.{ArePorts};
-ghost use Rattle.board_hosts.specs.CoreHosts.{IsLoaded, IsRoot, IsOther, MakesNext, other_cores};
+ghost use Rattle.board_hosts.specs.CoreHosts.{IsLoadedHost, IsRoot, IsOther, MakesNext, other_cores};
 
 use copy_slots::Port;
 use core_alloc::Placement;
@@ -61,7 +61,7 @@ fn host_of<'b, 'c>(
     requires port { CanLoad code.now placement.now (parts.core ∷ [])
         (⟦<SlotPort<'b, ForecWork> as Port<ForecWork>>⟧.state parts.port) }
     requires rope { parts.rope ≡ new_rope code.now placement.now parts.core }
-    ensures { IfOk result (λ h. IsLoaded code.now placement.now parts.entry.core h) }
+    ensures { IfOk result (λ h. IsLoadedHost code.now placement.now parts.entry.core h) }
 {
     let CoreParts { core, port, rope } = parts;
     let host = Host::load_with(alloc, code, needs, placement, &[core], port)?;

@@ -18,9 +18,9 @@ use Rattle.forec_kernel.specs.declared.terms.Statement as rust
 use Rattle.text_kernel.specs.declared.names.Slot.{Slot}
 use Rattle.body_lower.specs.declared.scope.Scope.{Scope}
 use Rattle.body_lower.specs.declared.state.State.{State}
-use Rattle.text_kernel.specs.Lowering.{joined, NextNumbers, Made, Lowered, Listed, Started, Inlined, as_one, params_of, lower_terms, sequence, ends_with, bound_of, or_inferred, optional_test, after_start, then_step, set_params, scope_after, scope_after_perhaps, par_of, par_after, thread_of, lower_statement, lower_list, lower_perhaps, lower_branches}
+use Rattle.text_kernel.specs.Lowering.{joined_stmts, NextNumbers, Made, Lowered, Listed, Started, Inlined, as_one, param_names, lower_terms, sequence, ends_with, bound_of, or_inferred, optional_test, after_start, then_step, set_params, scope_after, scope_after_perhaps, par_of, par_after, made_thread, lower_statement, lower_list, lower_perhaps, lower_branches}
 use Rattle.body_lower.proofs.Statements.{joined_none, joined_more}
-use Rattle.body_lower.specs.Views.{seen, Kept, Same, next_of, threads_of, Bare, bare, Does, DoesList, DoesBranches}
+use Rattle.body_lower.specs.Views.{seen, AppendsLocals, Same, next_of, threads_of, Bare, bare, Does, DoesList, DoesBranches}
 
 pub does_as : {text : Text} (l m : Lowered) (k : Stmt) (old new : State) → l ≡ m → Does text l k old new → Does text m k old new
 does_as {text} l m k old new e d = subst (λ x. Does text x k old new) e d
@@ -79,12 +79,12 @@ module _ (text : Text) (called : ℕ → Inlined) (t : ℕ) where
   branch_first s p n (Call name args) rest =
       let b = called name.id 0 n.thread (record { slot = count_terms (terms args); thread = suc n.thread; par = n.par }) in
       let m = lower_branches text called t s p (record { slot = n.slot; thread = b.next.thread; par = b.next.par }) rest in
-      let one = thread_of t p (Some name.id) (length (params_of (find_function name.id text))) b in
+      let one = made_thread t p (Some name.id) (length (param_names (find_function name.id text))) b in
       ap (λ l. record { launches = record { thread = n.thread; args = lower_terms text s (terms args) } ∷ m.launches; next = m.next; made = l ++ m.made }) (sym (append-nil one))
   branch_first s p n (Group' place shape body) rest =
       let l = lower_list text called n.thread [] (record { slot = 0; thread = suc n.thread; par = n.par }) (statement_row body) in
       let m = lower_branches text called t s p (record { slot = n.slot; thread = l.next.thread; par = l.next.par }) rest in
-      let one = thread_of t p None 0 (as_one l) in
+      let one = made_thread t p None 0 (as_one l) in
       ap (λ x. record { launches = record { thread = n.thread; args = no_exprs } ∷ m.launches; next = m.next; made = x ++ m.made }) (sym (append-nil one))
 
   pub par_some : (s : List Slot) (p q : ℕ) (n : NextNumbers) (b : Branch) (rest : Branches) →
@@ -153,7 +153,7 @@ count_args (e ∷ es) = ap suc (count_args es)
 
 -- what is left of a list, from a state on, after what is done
 pub record ListLeft (text : Text) (rest whole : Listed) (done : Stmts) (old now : State) : Type 0 where
-  pub is : joined done rest.list ≡ whole.list
+  pub is : joined_stmts done rest.list ≡ whole.list
   pub next : rest.next ≡ whole.next
   pub threads : threads_of text now ++ map bare rest.made ≡ threads_of text old ++ map bare whole.made
 
@@ -213,11 +213,11 @@ same_seen a b h = ap (λ n. drop n b.slots.items) h.base ∙ ap (drop a.base) h.
 pub same_then : (a b c : Scope) → Same a b → Same b c → Same a c
 same_then a b c h g = record { base = g.base ∙ h.base; slots = g.slots ∙ h.slots }
 
-pub same_kept : (a b : Scope) → Same a b → Kept a b
+pub same_kept : (a b : Scope) → Same a b → AppendsLocals a b
 same_kept a b h = record { base = h.base; front = ap (take (length a.slots.items)) h.slots ∙ take_all (length a.slots.items) a.slots.items (omega arith) }
 
 -- what was kept and is cut off again
-pub kept_cut : (a b c : Scope) (n : ℕ) → Kept a b → n ≡ length a.slots.items → c.slots.items ≡ take n b.slots.items → c.base ≡ b.base → Same a c
+pub kept_cut : (a b c : Scope) (n : ℕ) → AppendsLocals a b → n ≡ length a.slots.items → c.slots.items ≡ take n b.slots.items → c.base ≡ b.base → Same a c
 kept_cut a b c n h e s g = record { base = g ∙ h.base; slots = s ∙ (ap (λ m. take m b.slots.items) e ∙ h.front) }
 
 -- ---- one branch, and the rest

@@ -18,7 +18,7 @@ use Rattle.body_lower.specs.declared.scope.Scope.{Scope}
 use Rattle.body_lower.specs.declared.state.State.{State}
 use Rattle.text_kernel.specs.Lowering.{NextNumbers, Listed, Started, Inlined, as_one, sequence, scope_after, lower_statement, lower_list, lower_branches, inlined_body, inlined_step, nothing_inlined}
 use Rattle.body_lower.specs.Landings.{called_within}
-use Rattle.body_lower.specs.Views.{seen, Kept, Same, next_of, threads_of, bare, Does, DoesList, DoesBranches}
+use Rattle.body_lower.specs.Views.{seen, AppendsLocals, Same, next_of, threads_of, bare, Does, DoesList, DoesBranches}
 use Rattle.body_lower.proofs.Statements.{drop_next}
 use Rattle.body_lower.proofs.Doing.{ListLeft, BranchesLeft, list_step, list_more, list_finish, branches_more, branches_finish, branches_step, same_seen, par_does}
 
@@ -87,7 +87,7 @@ same_list text called t s s1 n n1 a b e d f =
     ap (λ x. lower_list text called t x n (statements a)) e ∙ (ap (λ x. lower_list text called t s1 x (statements a)) d ∙ ap (λ x. lower_list text called t s1 n1 (statements x)) f)
 
 -- locals that were hidden are seen again
-pub shown_same : (old hidden now shown : Scope) (b : ℕ) → b ≡ old.base → hidden.base ≡ length old.slots.items → hidden.slots.items ≡ old.slots.items → Kept hidden now →
+pub shown_same : (old hidden now shown : Scope) (b : ℕ) → b ≡ old.base → hidden.base ≡ length old.slots.items → hidden.slots.items ≡ old.slots.items → AppendsLocals hidden now →
     shown.slots.items ≡ take now.base now.slots.items → shown.base ≡ b → Same old shown
 shown_same old hidden now shown b e h g k s w =
     let long : now.base ≡ length hidden.slots.items = k.base ∙ (h ∙ ap length (sym g)) in

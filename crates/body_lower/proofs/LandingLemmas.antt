@@ -23,7 +23,7 @@ use Rattle.text_kernel.specs.Bindings.{params_at}
 use Rattle.text_kernel.specs.Lowering.{NextNumbers, Lowered, Inlined, scope_after, from_slot, as_one, bound_of, lower_term, lower_statement, lower_list, lower_perhaps, inlined_body}
 use Rattle.body_lower.specs.declared.landing.Landing.{Landing}
 use Rattle.body_lower.specs.declared.state.State.{State}
-use Rattle.body_lower.specs.Landings.{only, inside, SameKernel, called_within, FunctionLands, AllLand, CallLands}
+use Rattle.body_lower.specs.Landings.{only, only_in_group, SameKernel, called_within, FunctionLands, AllLand, CallLands}
 use Rattle.loop_check.specs.Numbered.{put_at}
 use Rattle.loop_check.proofs.IndexLemmas.{split}
 use Rattle.body_lower.specs.Views.{seen, Same, next_of, threads_of, bare, Does}
@@ -55,7 +55,7 @@ only_is (more_statements b (more_statements c rest)) a h = cc
 group_same : (at : Place) (body : Statements) (b : Statement) → only body ≡ Some b → SameKernel (Group at body) b
 group_same at body b h = λ text called t s n. ap (λ q. lower_statement text called t s n (Group at q)) (only_is body b h) ∙ one_alone (lower_statement text called t s n b)
 
-pub inside_same : (a b : Statement) → inside a ≡ Some b → SameKernel a b
+pub inside_same : (a b : Statement) → only_in_group a ≡ Some b → SameKernel a b
 inside_same (Group at body) b h = group_same at body b h
 inside_same (Nothing at) b h = cc
 inside_same (Declare at locals) b h = cc
@@ -69,7 +69,7 @@ inside_same (Par at bs) b h = cc
 inside_same (Abort at weak immediate test body) b h = cc
 inside_same (Return at value) b h = cc
 
-pub same_step : (a b c : Statement) → SameKernel a b → inside b ≡ Some c → SameKernel a c
+pub same_step : (a b c : Statement) → SameKernel a b → only_in_group b ≡ Some c → SameKernel a c
 same_step a b c h e = λ text called t s n. h text called t s n ∙ inside_same b c e text called t s n
 
 pub same_none : (a : Statement) → SameKernel a a
@@ -88,7 +88,7 @@ abbrev mutual
 fewer_first : (body : Statements) (b : Statement) → only body ≡ Some b → groups b ≡ groups_first body
 fewer_first body b h = ap groups_first (sym (only_is body b h))
 
-pub fewer : (a b : Statement) → inside a ≡ Some b → groups b < groups a
+pub fewer : (a b : Statement) → only_in_group a ≡ Some b → groups b < groups a
 fewer (Group at body) b h = let e = fewer_first body b h in omega (arith, e)
 fewer (Nothing at) b h = cc
 fewer (Declare at locals) b h = cc

@@ -14,21 +14,21 @@ use Rattle.forec_tree.specs.Pauses.{find_function}
 use Rattle.forec_kernel.specs.Terms as kernel
 use Rattle.forec_kernel.specs.Terms.{Stmt}
 use Rattle.text_kernel.specs.declared.names.Slot.{Slot}
-use Rattle.text_kernel.specs.Lowering.{NextNumbers, Lowered, Inlined, as_one, params_of, thread_of, lower_terms, lower_list, lower_branches}
+use Rattle.text_kernel.specs.Lowering.{NextNumbers, Lowered, Inlined, as_one, param_names, made_thread, lower_terms, lower_list, lower_branches}
 use Rattle.body_lower.specs.declared.added.Added.{Added}
 use Rattle.body_lower.specs.declared.state.Pending.{Pending}
 use Rattle.body_lower.specs.declared.state.State.{State}
 use Rattle.body_lower.specs.declared.state.Thread.{Thread}
 use Rattle.body_lower.specs.Additions.{BranchesAdd}
 use Rattle.body_lower.specs.Landings.{called_within}
-use Rattle.body_lower.specs.Views.{next_of, Bare, bare, of_thread, made_by, made_of, threads_in, threads_of, threads_on, Does, DoesBranches, Launches}
+use Rattle.body_lower.specs.Views.{next_of, Bare, bare, of_thread, made_by, made_of, pending_threads, threads_of, threads_on, Does, DoesBranches, Launches}
 
 -- ---- a branch more
 
-pub threads_pushed : (text : Text) (ps : List Pending) (q : Pending) → threads_in text (ps ++ q ∷ []) ≡ threads_in text ps ++ map bare (made_of text q)
+pub threads_pushed : (text : Text) (ps : List Pending) (q : Pending) → pending_threads text (ps ++ q ∷ []) ≡ pending_threads text ps ++ map bare (made_of text q)
 threads_pushed text [] q = append-nil (map bare (made_of text q))
 threads_pushed text (p ∷ ps) q =
-    ap (λ l. map bare (made_of text p) ++ l) (threads_pushed text ps q) ∙ sym (append_assoc (map bare (made_of text p)) (threads_in text ps) (map bare (made_of text q)))
+    ap (λ l. map bare (made_of text p) ++ l) (threads_pushed text ps q) ∙ sym (append_assoc (map bare (made_of text p)) (pending_threads text ps) (map bare (made_of text q)))
 
 pub stack_pushed : (text : Text) (ps : List Pending) (q : Pending) → threads_on text (ps ++ q ∷ []) ≡ map bare (made_of text q) ++ threads_on text ps
 stack_pushed text [] q = sym (append-nil (map bare (made_of text q)))
@@ -65,7 +65,7 @@ branch_does text deep t p s b a args old new adds low e f g more launches =
           ap (λ x. next_at x new.thread new.par) e
           ∙ (ap (λ x. next_at old.slot x new.par) (f ∙ sym m.thread) ∙ (ap (λ x. next_at old.slot l.next.thread x) (g ∙ sym m.par) ∙ next_behind text called t p s (next_of old) b.now));
       threads =
-          ap (threads_in text) more
+          ap (pending_threads text) more
           ∙ (threads_pushed text old.pending.items one ∙ ap (λ x. threads_of text old ++ map bare x) (made_anywhere text called t p s (next_of old) b.now));
     }
 
@@ -89,11 +89,11 @@ abbrev bare_as : ℕ → ℕ → Option ℕ → ℕ → ℕ → ℕ → Stmt →
 bare_as parent par name params words behind body = record { parent = parent; par = par; name = name; params = params; words = words; behind = behind; body = body }
 
 thread_made : (text : Text) (l : Lowered) (k : Stmt) (one new : State) (parent par : ℕ) (name : Option ℕ) (params : ℕ) → threads_of text one ≡ [] → Does text l k one new →
-    bare_as parent par name params new.slot new.thread k ∷ threads_of text new ≡ map bare (thread_of parent par name params l ++ [])
+    bare_as parent par name params new.slot new.thread k ∷ threads_of text new ≡ map bare (made_thread parent par name params l ++ [])
 thread_made text l k one new parent par name params e d =
     ap (λ x. bare_as parent par name params new.slot new.thread k ∷ x) (d.threads ∙ ap (λ x. x ++ map bare l.made) e)
     ∙ (ap (λ (n : NextNumbers). bare_as parent par name params n.slot n.thread k ∷ map bare l.made) d.next
-    ∙ (ap (λ x. bare_as parent par name params l.next.slot l.next.thread x ∷ map bare l.made) d.is ∙ ap (map bare) (sym (append-nil (thread_of parent par name params l)))))
+    ∙ (ap (λ x. bare_as parent par name params l.next.slot l.next.thread x ∷ map bare l.made) d.is ∙ ap (map bare) (sym (append-nil (made_thread parent par name params l)))))
 
 begins : (slot thread par number : ℕ) (one : State) → one.slot ≡ slot → one.thread ≡ number + 1 → one.par ≡ par → next_of one ≡ next_at slot (suc number) par
 begins slot thread par number one e f g =
@@ -101,13 +101,13 @@ begins slot thread par number one e f g =
     ap (λ x. next_at x one.thread one.par) e ∙ (ap (λ x. next_at slot x one.par) z ∙ ap (λ x. next_at slot (suc number) x) g)
 
 pub call_made : (text : Text) (deep parent par number first : ℕ) (name : Name) (args : Terms) (params : ℕ) (k : Stmt) (one new : State) → one.slot ≡ count_terms args → one.thread ≡ number + 1 → one.par ≡ first → threads_of text one ≡ [] →
-    params ≡ length (params_of (find_function name.id text)) → Does text (called_within text deep name.id 0 number (next_of one)) k one new →
+    params ≡ length (param_names (find_function name.id text)) → Does text (called_within text deep name.id 0 number (next_of one)) k one new →
     bare_as parent par (Some name.id) params new.slot new.thread k ∷ threads_of text new ≡ map bare (made_by text deep parent par number first (by_call name args no_branches))
 call_made text deep parent par number first name args params k one new e f g z q d =
     let n = begins (count_terms args) one.thread first number one e f g in
     let l = called_within text deep name.id 0 number (next_at (count_terms args) (suc number) first) in
     thread_made text l k one new parent par (Some name.id) params z (subst (λ x. Does text (called_within text deep name.id 0 number x) k one new) n d)
-    ∙ ap (λ x. map bare (thread_of parent par (Some name.id) x l ++ [])) q
+    ∙ ap (λ x. map bare (made_thread parent par (Some name.id) x l ++ [])) q
 
 pub block_made : (text : Text) (deep parent par number first : ℕ) (place : Place) (body : Statements) (k : Stmt) (one new : State) → one.slot ≡ 0 → one.thread ≡ number + 1 → one.par ≡ first → threads_of text one ≡ [] →
     Does text (as_one (lower_list text (called_within text deep) number [] (next_of one) body)) k one new →
@@ -120,16 +120,16 @@ block_made text deep parent par number first place body k one new e f g z d =
 -- ---- the stack
 
 -- the last one of what is pending is put on the stack
-pub stack_next : (text : Text) (pending rest stack now : List Pending) (q : Pending) (whole : List Bare) → pending ≡ rest ++ q ∷ [] → now ≡ stack ++ q ∷ [] → threads_in text pending ++ threads_on text stack ≡ whole →
-    threads_in text rest ++ threads_on text now ≡ whole
+pub stack_next : (text : Text) (pending rest stack now : List Pending) (q : Pending) (whole : List Bare) → pending ≡ rest ++ q ∷ [] → now ≡ stack ++ q ∷ [] → pending_threads text pending ++ threads_on text stack ≡ whole →
+    pending_threads text rest ++ threads_on text now ≡ whole
 stack_next text pending rest stack now q whole e f w =
-    ap (λ x. threads_in text rest ++ threads_on text x) f
-    ∙ (ap (λ x. threads_in text rest ++ x) (stack_pushed text stack q)
-    ∙ (sym (append_assoc (threads_in text rest) (map bare (made_of text q)) (threads_on text stack))
-    ∙ (ap (λ x. x ++ threads_on text stack) (sym (threads_pushed text rest q)) ∙ (ap (λ x. threads_in text x ++ threads_on text stack) (sym e) ∙ w))))
+    ap (λ x. pending_threads text rest ++ threads_on text x) f
+    ∙ (ap (λ x. pending_threads text rest ++ x) (stack_pushed text stack q)
+    ∙ (sym (append_assoc (pending_threads text rest) (map bare (made_of text q)) (threads_on text stack))
+    ∙ (ap (λ x. x ++ threads_on text stack) (sym (threads_pushed text rest q)) ∙ (ap (λ x. pending_threads text x ++ threads_on text stack) (sym e) ∙ w))))
 
-pub stack_done : (text : Text) (pending stack : List Pending) (whole : List Bare) → pending ≡ [] → threads_in text pending ++ threads_on text stack ≡ whole → threads_on text stack ≡ whole
-stack_done text pending stack whole e w = ap (λ x. threads_in text x ++ threads_on text stack) (sym e) ∙ w
+pub stack_done : (text : Text) (pending stack : List Pending) (whole : List Bare) → pending ≡ [] → pending_threads text pending ++ threads_on text stack ≡ whole → threads_on text stack ≡ whole
+stack_done text pending stack whole e w = ap (λ x. pending_threads text x ++ threads_on text stack) (sym e) ∙ w
 
 -- one more thread is translated
 module _ (text : Text) (done more : List Thread) (x : Thread) (stack rest : List Pending) (q : Pending) (inside now : List Bare) (e : stack ≡ rest ++ q ∷ []) (is : of_thread x ∷ inside ≡ map bare (made_of text q))

@@ -14,9 +14,9 @@ only (more_statements a no_statements) = Some a
 only (more_statements a (more_statements b rest)) = None
 
 -- the statement in a group of one
-abbrev pub inside : Statement → Option Statement
-inside (Group at body) = only body
-inside _ = None
+abbrev pub only_in_group : Statement → Option Statement
+only_in_group (Group at body) = only body
+only_in_group _ = None
 
 -- two statements become the same wherever they stand
 abbrev pub SameKernel : Statement → Statement → Type 0

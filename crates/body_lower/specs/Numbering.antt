@@ -8,28 +8,28 @@ use Rattle.text_kernel.specs.declared.names.Stands.TheVariants as st
 use Rattle.body_lower.specs.declared.globals.KernelIndices.{KernelIndices}
 use Rattle.text_kernel.specs.Bindings.{item_id, variables_in, is_table, is_int_function, first_value}
 
-abbrev pub none : KernelIndices
-none = record { variables = 0; tables = 0; functions = 0 }
+abbrev pub no_indices : KernelIndices
+no_indices = record { variables = 0; tables = 0; functions = 0 }
 
 abbrev pub more_if : ℕ → Bool → ℕ
 more_if n b = n + cond b 1 0
 
-abbrev pub counted : KernelIndices → PlainItem → KernelIndices
-counted c i =
+abbrev pub count_item : KernelIndices → PlainItem → KernelIndices
+count_item c i =
     record { variables = c.variables + variables_in i; tables = more_if c.tables (is_table i); functions = more_if c.functions (is_int_function i) }
 
 -- the counts before the first item of a name, or after all
 abbrev pub before_name : ℕ → KernelIndices → Text → KernelIndices
 before_name id c [] = c
-before_name id c (i ∷ rest) = cond (item_id i == id) c (before_name id (counted c i) rest)
+before_name id c (i ∷ rest) = cond (item_id i == id) c (before_name id (count_item c i) rest)
 
-abbrev pub given : Option KernelIndices → KernelIndices → KernelIndices
-given None c = c
-given (Some d) c = d
+abbrev pub indices_or : Option KernelIndices → KernelIndices → KernelIndices
+indices_or None c = c
+indices_or (Some d) c = d
 
 -- counts were put at a name that had none
-abbrev pub noted : ℕ → ℕ → KernelIndices → Option KernelIndices → Option KernelIndices
-noted id g c old = cond (id == g) (Some (given old c)) old
+abbrev pub put_indices : ℕ → ℕ → KernelIndices → Option KernelIndices → Option KernelIndices
+put_indices id g c old = cond (id == g) (Some (indices_or old c)) old
 
 -- what a global that isn't a constant stands for, with the number of its first variable
 abbrev pub stands_from : ℕ → PlainGlobal → Stands

@@ -8,7 +8,7 @@ use Rattle.forec_tree.specs.declared.tree.Expr.{Expr}
 use Rattle.forec_tree.specs.declared.tree.Stmt as rust
 use Rattle.forec_tree.specs.Plain.{term, optional_term, statement, branch_with}
 use Rattle.forec_tree.specs.Terms.{Text, Statement, If, Statements, Perhaps, Branches, no_branches, PlainFunction}
-use Rattle.loop_check.specs.Views.{text_of}
+use Rattle.loop_check.specs.Views.{indexed_text}
 use Rattle.loop_check.specs.Judges.{judge_text}
 use Rattle.body_lower.specs.declared.source.Source.{Source}
 use Rattle.body_lower.specs.declared.context.Context.{Context}
@@ -28,7 +28,7 @@ abbrev pub seen : Scope → List Slot
 seen s = drop s.base s.slots.items
 
 -- the same locals as before, with others after them
-pub record Kept (old new : Scope) : Type 0 where
+pub record AppendsLocals (old new : Scope) : Type 0 where
   pub base : new.base ≡ old.base
   pub front : take (length old.slots.items) new.slots.items ≡ old.slots.items
 
@@ -65,12 +65,12 @@ made_by text deep parent par number first bs = (lower_branches text (called_with
 abbrev pub made_of : Text → Pending → List Made
 made_of text p = made_by text p.deep p.parent p.par p.number p.first (branch_with p.branch.now no_branches)
 
-abbrev pub threads_in : Text → List Pending → List Bare
-threads_in text [] = []
-threads_in text (p ∷ rest) = map bare (made_of text p) ++ threads_in text rest
+abbrev pub pending_threads : Text → List Pending → List Bare
+pending_threads text [] = []
+pending_threads text (p ∷ rest) = map bare (made_of text p) ++ pending_threads text rest
 
 abbrev pub threads_of : Text → State → List Bare
-threads_of text s = threads_in text s.pending.items
+threads_of text s = pending_threads text s.pending.items
 
 -- the same of a stack, of which the last one comes first
 abbrev pub threads_on : Text → List Pending → List Bare
@@ -95,12 +95,12 @@ pub record DoesBranches (text : Text) (l : Started) (k : List Branch) (old new :
 
 -- all parts of a source are of one text
 pub record OneText (s : Source) : Type 0 where
-  pub pauses : judge_text s.pauses ≡ text_of s.globals.index
-  pub landings : AllLand (text_of s.globals.index) s.landings.items
-  pub added : AllAdd (text_of s.globals.index) s.added.items
+  pub pauses : judge_text s.pauses ≡ indexed_text s.globals.index
+  pub landings : AllLand (indexed_text s.globals.index) s.landings.items
+  pub added : AllAdd (indexed_text s.globals.index) s.added.items
 
 abbrev pub context_text : Context → Text
-context_text c = text_of c.source.now.globals.index
+context_text c = indexed_text c.source.now.globals.index
 
 -- the arguments of a single branch, from where it stands
 abbrev pub Launches : Text → List Slot → Branches → Exprs → Type 0
@@ -109,24 +109,24 @@ Launches text s bs args = (called : ℕ → Inlined) (t p : ℕ) (n : NextNumber
 -- the same, in a context
 abbrev pub Done : Context → Statement → Stmt → State → State → Type 0
 Done c a k old new =
-    let text = text_of c.source.now.globals.index in Does text (lower_statement text (called_within text c.deep) c.owner (seen old.scope) (next_of old) a) k old new
+    let text = indexed_text c.source.now.globals.index in Does text (lower_statement text (called_within text c.deep) c.owner (seen old.scope) (next_of old) a) k old new
 
 abbrev pub DonePerhaps : Context → Perhaps → Stmt → State → State → Type 0
 DonePerhaps c a k old new =
-    let text = text_of c.source.now.globals.index in Does text (lower_perhaps text (called_within text c.deep) c.owner (seen old.scope) (next_of old) a) k old new
+    let text = indexed_text c.source.now.globals.index in Does text (lower_perhaps text (called_within text c.deep) c.owner (seen old.scope) (next_of old) a) k old new
 
 abbrev pub DoneList : Context → List Slot → Statements → Stmts → State → State → Type 0
 DoneList c s a k old new =
-    let text = text_of c.source.now.globals.index in DoesList text (lower_list text (called_within text c.deep) c.owner s (next_of old) a) k old new
+    let text = indexed_text c.source.now.globals.index in DoesList text (lower_list text (called_within text c.deep) c.owner s (next_of old) a) k old new
 
 -- a list as one statement
 abbrev pub DoneAsOne : Context → List Slot → Statements → Stmt → State → State → Type 0
 DoneAsOne c s a k old new =
-    let text = text_of c.source.now.globals.index in Does text (as_one (lower_list text (called_within text c.deep) c.owner s (next_of old) a)) k old new
+    let text = indexed_text c.source.now.globals.index in Does text (as_one (lower_list text (called_within text c.deep) c.owner s (next_of old) a)) k old new
 
 abbrev pub DoneBranches : Context → (par : ℕ) → Branches → List Branch → State → State → Type 0
 DoneBranches c par bs k old new =
-    let text = text_of c.source.now.globals.index in DoesBranches text (lower_branches text (called_within text c.deep) c.owner (seen old.scope) par (next_of old) bs) k old new
+    let text = indexed_text c.source.now.globals.index in DoesBranches text (lower_branches text (called_within text c.deep) c.owner (seen old.scope) par (next_of old) bs) k old new
 
 -- an `if` without its place, which the kernel doesn't keep
 abbrev pub DoneIf : Context → Expr → rust.Stmt → Perhaps → Stmt → State → State → Type 0
@@ -139,28 +139,28 @@ DoneAbort c h body k old new = (at : Place) → Done c (abort_at at h body) k ol
 -- a statement to which so many calls come, which sees global names alone
 abbrev pub DoneLanded : Context → ℕ → Statement → Stmt → State → State → Type 0
 DoneLanded c calls a k old new =
-    let text = text_of c.source.now.globals.index in Does text (lower_statement text (called_within text (c.deep - calls)) c.owner [] (next_of old) a) k old new
+    let text = indexed_text c.source.now.globals.index in Does text (lower_statement text (called_within text (c.deep - calls)) c.owner [] (next_of old) a) k old new
 
 -- a function by its name, inlined with its parameters from a slot on
 abbrev pub DoneCall : Context → (id first : ℕ) → Stmt → State → State → Type 0
 DoneCall c id first k old new =
-    let text = text_of c.source.now.globals.index in Does text (called_within text c.deep id first c.owner (next_of old)) k old new
+    let text = indexed_text c.source.now.globals.index in Does text (called_within text c.deep id first c.owner (next_of old)) k old new
 
 -- the body of a function, inlined with its parameters from a slot on
 abbrev pub DoneFunction : Context → PlainFunction → (first : ℕ) → Stmt → State → State → Type 0
 DoneFunction c f first k old new =
-    let text = text_of c.source.now.globals.index in Does text (inlined_body text (called_within text c.deep) (Some f) first c.owner (next_of old)) k old new
+    let text = indexed_text c.source.now.globals.index in Does text (inlined_body text (called_within text c.deep) (Some f) first c.owner (next_of old)) k old new
 
 -- the locals that are seen after a statement
 abbrev pub SeenAfter : Context → Statement → State → State → Type 0
-SeenAfter c a old new = seen new.scope ≡ scope_after (text_of c.source.now.globals.index) (seen old.scope) old.slot a
+SeenAfter c a old new = seen new.scope ≡ scope_after (indexed_text c.source.now.globals.index) (seen old.scope) old.slot a
 
 abbrev pub SeenAfterPerhaps : Context → Perhaps → State → State → Type 0
-SeenAfterPerhaps c a old new = seen new.scope ≡ scope_after_perhaps (text_of c.source.now.globals.index) (seen old.scope) old.slot a
+SeenAfterPerhaps c a old new = seen new.scope ≡ scope_after_perhaps (indexed_text c.source.now.globals.index) (seen old.scope) old.slot a
 
 -- the test of a `for`; a missing one is the number 1
 abbrev pub IsTest : Context → State → Option Expr → kernel.Expr → Type 0
-IsTest c s test e = e ≡ optional_test (text_of c.source.now.globals.index) (seen s.scope) (optional_term test)
+IsTest c s test e = e ≡ optional_test (indexed_text c.source.now.globals.index) (seen s.scope) (optional_term test)
 
 -- A thread and the branches that are pending after it are what a branch becomes.
 abbrev pub IsMade : Text → Pending → Thread → State → Type 0
@@ -169,4 +169,4 @@ IsMade text one t new = of_thread t ∷ threads_of text new ≡ map bare (made_o
 -- the same by the numbers that a context and a state have
 abbrev pub IsMadeBy : Context → Pending → Branches → Thread → State → State → Type 0
 IsMadeBy c one bs t old new =
-    let text = text_of c.source.now.globals.index in of_thread t ∷ threads_of text new ≡ map bare (made_by text c.deep one.parent one.par c.owner old.par bs)
+    let text = indexed_text c.source.now.globals.index in of_thread t ∷ threads_of text new ≡ map bare (made_by text c.deep one.parent one.par c.owner old.par bs)

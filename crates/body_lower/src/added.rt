@@ -7,9 +7,9 @@ ghost use Rattle.forec_tree.specs.Plain as plain;
 ghost use Rattle.forec_tree.specs.Plain.{perhaps_of};
 ghost use Rattle.forec_tree.specs.Terms as tree;
 ghost use Rattle.forec_tree.specs.Terms.{Text};
-ghost use Rattle.loop_check.specs.Views.{text_of};
+ghost use Rattle.loop_check.specs.Views.{indexed_text};
 ghost use Rattle.body_lower.specs.Additions as additions;
-ghost use Rattle.body_lower.specs.Additions.{StatementAdds, PerhapsAdds, ListAdds, BranchesAdd, BodyAdds, FunctionAdds, AllAdd, Joins};
+ghost use Rattle.body_lower.specs.Additions.{StatementAdds, PerhapsAdds, ListAdds, BranchesAdd, BodyAdds, FunctionAdds, AllAdd, AddsTogether};
 
 use crate::parts::sum;
 use forec_base::OutOfMemory;
@@ -27,7 +27,7 @@ pub struct Added {
 
 /// What a text adds without calls and branches.
 fn nothing() -> Added
-    ensures { result ≡ additions.nothing }
+    ensures { result ≡ additions.no_additions }
 {
     Added {
         threads: 0,
@@ -38,7 +38,7 @@ fn nothing() -> Added
 
 /// What two texts add together.
 fn both(a: Added, b: Added) -> Result<Added, OutOfMemory>
-    ensures { IfOk result (Joins a b) }
+    ensures { IfOk result (AddsTogether a b) }
 {
     let threads = sum(a.threads, b.threads)?;
     let pars = sum(a.pars, b.pars)?;
@@ -216,8 +216,8 @@ fn of_function(table: &[Option<Added>], function: &Function) -> Result<Added, Ou
 
 /// What the function of a name adds, by what is known of those that it calls.
 fn of_name(index: &Index<'_>, table: &[Option<Added>], id: u32) -> Option<Added>
-    requires { AllAdd (text_of index.now) table.now }
-    ensures { FunctionAdds (text_of index.now) id result }
+    requires { AllAdd (indexed_text index.now) table.now }
+    ensures { FunctionAdds (indexed_text index.now) id result }
 {
     match find_function(index, id) {
         None => Some(nothing()),
@@ -234,7 +234,7 @@ pub fn additions(
     index: &Index<'_>,
     order: &[u32],
 ) -> Result<Vec<Option<Added>>, OutOfMemory>
-    ensures { IfOk result (λ table. AllAdd (text_of index.now) table.items) }
+    ensures { IfOk result (λ table. AllAdd (indexed_text index.now) table.items) }
 {
     let mut table = Vec::new(alloc);
     for f in order {

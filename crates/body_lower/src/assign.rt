@@ -5,12 +5,12 @@ ghost use Rattle.forec_kernel.specs.Terms.{Num};
 ghost use Rattle.forec_tree.specs.Plain as plain;
 ghost use Rattle.forec_tree.specs.Terms as tree;
 ghost use Rattle.forec_kernel.specs.Plain as kernel;
-ghost use Rattle.loop_check.specs.Views.{text_of};
+ghost use Rattle.loop_check.specs.Views.{indexed_text};
 ghost use Rattle.text_kernel.specs.Bindings as bindings;
 ghost use Rattle.text_kernel.specs.declared.names.Stands.TheVariants as st;
 ghost use Rattle.text_kernel.specs.Lowering as lowering;
 ghost use Rattle.body_lower.specs.Assigned.{IsAssigned, AreSet, AreDeclared};
-ghost use Rattle.body_lower.specs.Views.{seen, Kept, SeenAfter, Done};
+ghost use Rattle.body_lower.specs.Views.{seen, AppendsLocals, SeenAfter, Done};
 
 use crate::context::Context;
 use crate::globals::Globals;
@@ -31,7 +31,7 @@ fn operated(
     old: Expression,
     value: Box<Expression>,
 ) -> Result<Expression, OutOfMemory>
-    ensures { IfOk result (λ k. kernel.expr k ≡ lowering.operated op (kernel.expr old) (kernel.expr value.value)) }
+    ensures { IfOk result (λ k. kernel.expr k ≡ lowering.operated_expr op (kernel.expr old) (kernel.expr value.value)) }
 {
     match op {
         None => Ok(Box::into_inner(value)),
@@ -88,7 +88,7 @@ fn element_by(
     at: &Expr,
     place: Place,
 ) -> Result<Element, OutOfMemory>
-    ensures index { IfOk result (λ e. kernel.expr e.index.value ≡ lowering.lower_term (text_of globals.now.index) (seen scope.now) (plain.term at.now)) }
+    ensures index { IfOk result (λ e. kernel.expr e.index.value ≡ lowering.lower_term (indexed_text globals.now.index) (seen scope.now) (plain.term at.now)) }
     ensures again { IfOk result (λ e. kernel.expr e.again.value ≡ kernel.expr e.index.value) }
     ensures place { IfOk result (λ e. e.place ≡ place) }
 {
@@ -202,7 +202,7 @@ pub fn assign(
     op: Option<OpAt>,
     value: &Expr,
 ) -> Result<Statement, OutOfMemory>
-    ensures { IfOk result (λ k. IsAssigned (text_of globals.now.index) (seen scope.now) target.now op value.now (kernel.stmt k)) }
+    ensures { IfOk result (λ k. IsAssigned (indexed_text globals.now.index) (seen scope.now) target.now op value.now (kernel.stmt k)) }
 {
     let to = stands(globals, scope, target.name.id);
     let value = lower_boxed(alloc, globals, scope, value)?;
@@ -242,7 +242,7 @@ fn set_values(
     array: LocalArray,
     values: &[Expr],
 ) -> Result<(), OutOfMemory>
-    ensures { OnOk result (AreSet (text_of globals.now.index) (seen scope.now) array values.now list.old.items list.new.items) }
+    ensures { OnOk result (AreSet (indexed_text globals.now.index) (seen scope.now) array values.now list.old.items list.new.items) }
 {
     for (at, value) in values.iter().enumerate() {
         let value = lower_term(alloc, globals, scope, value)?;
@@ -266,7 +266,7 @@ fn lower_local(
     slot: u32,
     local: &Local,
 ) -> Result<Statement, OutOfMemory>
-    ensures { IfOk result (λ k. kernel.stmt k ≡ lowering.lower_local (text_of globals.now.index) (seen scope.now) slot (plain.declared local.now)) }
+    ensures { IfOk result (λ k. kernel.stmt k ≡ lowering.lower_local (indexed_text globals.now.index) (seen scope.now) slot (plain.declared local.now)) }
 {
     let values = local.values.as_slice();
     match local.length {
@@ -312,10 +312,10 @@ fn lower_locals(
     slot: &mut u32,
     locals: &[Local],
 ) -> Result<Vec<Statement>, OutOfMemory>
-    ensures list { IfOk result (λ k. AreDeclared (text_of globals.now.index) (seen scope.old) slot.old locals.now k.items) }
-    ensures slot { OnOk result (slot.new ≡ lowering.slots_after (text_of globals.now.index) slot.old (map plain.declared locals.now)) }
-    ensures seen { OnOk result (seen scope.new ≡ bindings.with_locals (seen scope.old) slot.old (map plain.declared locals.now)) }
-    ensures kept { OnOk result (Kept scope.old scope.new) }
+    ensures list { IfOk result (λ k. AreDeclared (indexed_text globals.now.index) (seen scope.old) slot.old locals.now k.items) }
+    ensures slot { OnOk result (slot.new ≡ lowering.slots_after (indexed_text globals.now.index) slot.old (map plain.declared locals.now)) }
+    ensures seen { OnOk result (seen scope.new ≡ bindings.with_local_slots (seen scope.old) slot.old (map plain.declared locals.now)) }
+    ensures kept { OnOk result (AppendsLocals scope.old scope.new) }
 {
     let mut list = Vec::new(alloc);
     for local in locals {
@@ -339,7 +339,7 @@ pub fn declare<'p>(
 ) -> Result<Statement, OutOfMemory>
     ensures does { IfOk result (λ k. Done context.now (tree.Declare place (map plain.declared locals.now)) (kernel.stmt k) state.old state.new) }
     ensures seen { OnOk result (SeenAfter context.now (tree.Declare place (map plain.declared locals.now)) state.old state.new) }
-    ensures kept { OnOk result (Kept state.old.scope state.new.scope) }
+    ensures kept { OnOk result (AppendsLocals state.old.scope state.new.scope) }
 {
     let list = lower_locals(
         context.alloc,
@@ -359,7 +359,7 @@ pub fn set_params(
     slot: u32,
     args: &[Expr],
 ) -> Result<Vec<Statement>, OutOfMemory>
-    ensures { IfOk result (λ k. kernel.stmts k.items ≡ lowering.set_params (text_of globals.now.index) (seen scope.now) slot (plain.terms args.now)) }
+    ensures { IfOk result (λ k. kernel.stmts k.items ≡ lowering.set_params (indexed_text globals.now.index) (seen scope.now) slot (plain.terms args.now)) }
 {
     let mut list = Vec::new(alloc);
     let mut at = slot;

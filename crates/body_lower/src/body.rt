@@ -10,7 +10,7 @@ ghost use Rattle.forec_tree.specs.Plain.{perhaps_of};
 ghost use Rattle.forec_tree.specs.Terms as tree;
 ghost use Rattle.forec_kernel.specs.Plain as kernel;
 ghost use Rattle.body_lower.specs.Heads.{while_of, for_of, turns_of};
-ghost use Rattle.body_lower.specs.Views.{OneText, context_text, seen, Kept, Same, SeenAfter, SeenAfterPerhaps, Done, DonePerhaps, DoneList, DoneAsOne};
+ghost use Rattle.body_lower.specs.Views.{OneText, context_text, seen, AppendsLocals, Same, SeenAfter, SeenAfterPerhaps, Done, DonePerhaps, DoneList, DoneAsOne};
 ghost use Rattle.body_lower.specs.Views.{DoneIf, DoneAbort, DoneLanded, DoneCall, DoneFunction};
 
 use crate::assign::{assign, declare, set_params};
@@ -41,7 +41,7 @@ pub fn statement<'p>(
     requires { OneText context.now.source.now }
     ensures does { IfOk result (λ k. Done context.now (plain.statement s.now) (kernel.stmt k) state.old state.new) }
     ensures seen { OnOk result (SeenAfter context.now (plain.statement s.now) state.old state.new) }
-    ensures kept { OnOk result (Kept state.old.scope state.new.scope) }
+    ensures kept { OnOk result (AppendsLocals state.old.scope state.new.scope) }
 {
     match &s.what {
         StmtKind::Declare { locals } => {
@@ -65,7 +65,7 @@ fn by_kind<'p>(
 ) -> Result<Statement, OutOfMemory>
     requires { OneText context.now.source.now }
     ensures does { IfOk result (λ k. Done context.now (plain.statement s.now) (kernel.stmt k) state.old state.new) }
-    ensures kept { OnOk result (Kept state.old.scope state.new.scope) }
+    ensures kept { OnOk result (AppendsLocals state.old.scope state.new.scope) }
 {
     if fuel == 0 {
         return Err(OutOfMemory);
@@ -393,7 +393,7 @@ fn optional_statement<'p>(
     requires { OneText context.now.source.now }
     ensures does { IfOk result (λ k. DonePerhaps context.now (perhaps_of s.now) (kernel.stmt k.value) state.old state.new) }
     ensures seen { OnOk result (SeenAfterPerhaps context.now (perhaps_of s.now) state.old state.new) }
-    ensures kept { OnOk result (Kept state.old.scope state.new.scope) }
+    ensures kept { OnOk result (AppendsLocals state.old.scope state.new.scope) }
 {
     match s {
         None => boxed(context.alloc, Statement::Nop),
@@ -414,7 +414,7 @@ pub fn list<'p>(
 ) -> Result<Vec<Statement>, OutOfMemory>
     requires { OneText context.now.source.now }
     ensures does { IfOk result (λ k. DoneList context.now (seen state.old.scope) (plain.statements body.now) (kernel.stmts k.items) state.old state.new) }
-    ensures kept { OnOk result (Kept state.old.scope state.new.scope) }
+    ensures kept { OnOk result (AppendsLocals state.old.scope state.new.scope) }
 {
     let mut list = Vec::new(context.alloc);
     for s in body {

@@ -4,7 +4,7 @@ ghost use Rattle.std.specs.Prelude.{◌≡◌, ◌+◌, ℕ, map, None, slice_in
 ghost use Rattle.forec_tree.specs.Plain.{plain_item, plain_global};
 ghost use Rattle.forec_tree.specs.Scopes.{find_item};
 ghost use Rattle.forec_tree.specs.Terms.{IsGlobal};
-ghost use Rattle.loop_check.specs.Views.{text_of};
+ghost use Rattle.loop_check.specs.Views.{indexed_text};
 ghost use Rattle.text_kernel.specs.Bindings as bindings;
 ghost use Rattle.body_lower.specs.Numbering as numbering;
 
@@ -29,7 +29,7 @@ pub struct Globals<'p> {
     pub index: Index<'p>,
     before: Vec<Option<KernelIndices>>,
     pub total: KernelIndices,
-    ghost right: { (id : ℕ) → numbering.given (slice_index_or before.items id None) total ≡ numbering.before_name id numbering.none (text_of index) },
+    ghost right: { (id : ℕ) → numbering.indices_or (slice_index_or before.items id None) total ≡ numbering.before_name id numbering.no_indices (indexed_text index) },
 }
 
 fn one_more(count: u32, more: bool) -> Result<u32, OutOfMemory>
@@ -100,7 +100,7 @@ fn is_int_function(item: &Item) -> bool
 
 /// The counts after an item.
 fn counted(counts: KernelIndices, item: &Item) -> Result<KernelIndices, OutOfMemory>
-    ensures { IfOk result (λ c. c ≡ numbering.counted counts (plain_item item.now)) }
+    ensures { IfOk result (λ c. c ≡ numbering.count_item counts (plain_item item.now)) }
 {
     Ok(KernelIndices {
         variables: more(counts.variables, variables_in(item))?,
@@ -115,7 +115,7 @@ fn note(
     id: u32,
     counts: KernelIndices,
 ) -> Result<(), OutOfMemory>
-    ensures { OnOk result ((g : ℕ) → slice_index_or before.new.items g None ≡ numbering.noted id g counts (slice_index_or before.old.items g None)) }
+    ensures { OnOk result ((g : ℕ) → slice_index_or before.new.items g None ≡ numbering.put_indices id g counts (slice_index_or before.old.items g None)) }
 {
     let at = id as usize;
     'room: while before.len() <= at {
@@ -175,7 +175,7 @@ impl<'p> Globals<'p> {
     ///
     /// Out of memory.
     pub fn of(alloc: Global, items: &'p [Item]) -> Result<Globals<'p>, OutOfMemory>
-        ensures { IfOk result (λ g. text_of g.index ≡ map plain_item items.now) }
+        ensures { IfOk result (λ g. indexed_text g.index ≡ map plain_item items.now) }
     {
         let index = Index::of(alloc, items)?;
         let mut before = Vec::new(alloc);
@@ -196,7 +196,7 @@ impl<'p> Globals<'p> {
     }
 
     fn counts(&self, id: u32) -> KernelIndices
-        ensures { result ≡ numbering.before_name id numbering.none (text_of self.now.index) }
+        ensures { result ≡ numbering.before_name id numbering.no_indices (indexed_text self.now.index) }
     {
         match self.before.get(id as usize) {
             Some(Some(counts)) => *counts,
@@ -206,14 +206,14 @@ impl<'p> Globals<'p> {
 
     /// The number of the int function of a name.
     pub fn function(&self, id: u32) -> u32
-        ensures { result ≡ bindings.number_among bindings.is_int_function id (text_of self.now.index) }
+        ensures { result ≡ bindings.number_among bindings.is_int_function id (indexed_text self.now.index) }
     {
         self.counts(id).functions
     }
 
     /// What the first item of a name stands for.
     pub fn stands(&self, id: u32) -> Stands
-        ensures { result ≡ bindings.item_stands (text_of self.now.index) (find_item id (text_of self.now.index)) }
+        ensures { result ≡ bindings.item_stands (indexed_text self.now.index) (find_item id (indexed_text self.now.index)) }
     {
         match self.index.find(id) {
             Some(Item::Global { global }) => global_stands(self.counts(global.name.id), global),

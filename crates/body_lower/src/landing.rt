@@ -5,7 +5,7 @@
 ghost use Rattle.std.specs.Prelude.{◌≡◌, ℕ, None, Some, option_map, slice_index_or, IfOk};
 ghost use Rattle.forec_tree.specs.Plain as plain;
 ghost use Rattle.forec_tree.specs.Pauses.{find_function};
-ghost use Rattle.loop_check.specs.Views.{text_of};
+ghost use Rattle.loop_check.specs.Views.{indexed_text};
 ghost use Rattle.body_lower.specs.Landings as landings;
 ghost use Rattle.body_lower.specs.Landings.{AllLand, FunctionLands, SameKernel, CallLands};
 
@@ -34,7 +34,7 @@ fn only(body: &[Stmt]) -> Option<&Stmt>
 
 /// The statement in a group of one.
 fn inside(s: &Stmt) -> Option<&Stmt>
-    ensures { option_map (λ one. plain.statement one.now) result ≡ landings.inside (plain.statement s.now) }
+    ensures { option_map (λ one. plain.statement one.now) result ≡ landings.only_in_group (plain.statement s.now) }
 {
     match &s.what {
         StmtKind::Group { body } => only(body.as_slice()),
@@ -45,7 +45,7 @@ fn inside(s: &Stmt) -> Option<&Stmt>
 /// The statement in nested groups of one; itself where it is no such group.
 pub fn innermost(s: &Stmt) -> &Stmt
     ensures same { SameKernel (plain.statement s.now) (plain.statement result.now) }
-    ensures last { landings.inside (plain.statement result.now) ≡ None }
+    ensures last { landings.only_in_group (plain.statement result.now) ≡ None }
 {
     let mut at = s;
     while let Some(one) = inside(at) {
@@ -63,8 +63,8 @@ fn known<'p>(table: &[Option<Landing<'p>>], id: u32) -> Option<Landing<'p>>
 
 /// Where a call lands by so many calls at most; only one without arguments does.
 pub fn lands<'p>(index: &Index<'p>, table: &[Option<Landing<'p>>], s: &Stmt) -> Option<Landing<'p>>
-    requires { AllLand (text_of index.now) table.now }
-    ensures { CallLands (text_of index.now) (plain.statement s.now) result }
+    requires { AllLand (indexed_text index.now) table.now }
+    ensures { CallLands (indexed_text index.now) (plain.statement s.now) result }
 {
     match &s.what {
         StmtKind::Call { name, args } => {
@@ -84,8 +84,8 @@ fn function_landing<'p>(
     table: &[Option<Landing<'p>>],
     function: &'p Function,
 ) -> Option<Landing<'p>>
-    requires { AllLand (text_of index.now) table.now }
-    ensures { (id : ℕ) → find_function id (text_of index.now) ≡ Some (plain.plain_function function.now) → FunctionLands (text_of index.now) id result }
+    requires { AllLand (indexed_text index.now) table.now }
+    ensures { (id : ℕ) → find_function id (indexed_text index.now) ≡ Some (plain.plain_function function.now) → FunctionLands (indexed_text index.now) id result }
 {
     if function.params.len() > 0 {
         return None;
@@ -113,8 +113,8 @@ fn function_landing<'p>(
 
 /// Where the call of the function of a name lands.
 fn landing_of<'p>(index: &Index<'p>, table: &[Option<Landing<'p>>], id: u32) -> Option<Landing<'p>>
-    requires { AllLand (text_of index.now) table.now }
-    ensures { FunctionLands (text_of index.now) id result }
+    requires { AllLand (indexed_text index.now) table.now }
+    ensures { FunctionLands (indexed_text index.now) id result }
 {
     match find_function(index, id) {
         None => None,
@@ -129,7 +129,7 @@ pub fn landings<'p>(
     index: &Index<'p>,
     order: &[u32],
 ) -> Result<Vec<Option<Landing<'p>>>, OutOfMemory>
-    ensures { IfOk result (λ table. AllLand (text_of index.now) table.items) }
+    ensures { IfOk result (λ table. AllLand (indexed_text index.now) table.items) }
 {
     let mut table = Vec::new(alloc);
     for f in order {

@@ -22,7 +22,7 @@ pub struct Scope {
 }
 
 impl Scope {
-    ghost use Rattle.body_lower.specs.Views.{seen, Kept, Same};
+    ghost use Rattle.body_lower.specs.Views.{seen, AppendsLocals, Same};
 
     /// No locals.
     pub fn new(alloc: Global) -> Scope
@@ -59,7 +59,7 @@ impl Scope {
     /// Declares a local.
     pub fn declare(&mut self, slot: Slot) -> Result<(), OutOfMemory>
         ensures seen { OnOk result (seen self.new ≡ seen self.old ++ slot ∷ []) }
-        ensures kept { OnOk result (Kept self.old self.new) }
+        ensures kept { OnOk result (AppendsLocals self.old self.new) }
         ensures same { OnErr result (Same self.old self.new) }
     {
         self.slots.push(slot)?;
@@ -73,7 +73,7 @@ impl Scope {
     /// Declares parameters, whose slots begin at `first`.
     pub fn declare_params(&mut self, first: u32, params: &[Name]) -> Result<(), OutOfMemory>
         ensures seen { OnOk result (seen self.new ≡ seen self.old ++ bindings.params_at first params.now) }
-        ensures kept { OnOk result (Kept self.old self.new) }
+        ensures kept { OnOk result (AppendsLocals self.old self.new) }
     {
         let mut at = first;
         for p in params {

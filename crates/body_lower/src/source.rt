@@ -4,7 +4,7 @@ ghost use Rattle.std.specs.Prelude.{◌≡◌, ◌∷◌, [], ℕ, None, Some, o
 ghost use Rattle.forec_tree.specs.Plain as plain;
 ghost use Rattle.forec_tree.specs.Pauses as pauses;
 ghost use Rattle.forec_tree.specs.Faults.{Leads};
-ghost use Rattle.loop_check.specs.Views.{text_of};
+ghost use Rattle.loop_check.specs.Views.{indexed_text};
 ghost use Rattle.loop_check.specs.Known.{FunctionOf};
 ghost use Rattle.body_lower.specs.Additions.{BranchesAdd};
 ghost use Rattle.body_lower.specs.Landings.{CallLands};
@@ -36,7 +36,7 @@ impl<'p> Source<'p> {
     /// Out of memory.
     pub fn of(alloc: Global, items: &'p [Item]) -> Result<Source<'p>, OutOfMemory>
         requires { (f : ℕ) → Leads (pauses.callees_of (map plain.plain_item items.now)) f f → ⊥ }
-        ensures text { IfOk result (λ s. text_of s.globals.index ≡ map plain.plain_item items.now) }
+        ensures text { IfOk result (λ s. indexed_text s.globals.index ≡ map plain.plain_item items.now) }
         ensures same { IfOk result OneText }
     {
         let globals = Globals::of(alloc, items)?;
@@ -55,7 +55,7 @@ impl<'p> Source<'p> {
 
     /// The function of a name.
     pub fn function(&self, id: u32) -> Option<&'p Function>
-        ensures { FunctionOf result (pauses.find_function id (text_of self.now.globals.index)) }
+        ensures { FunctionOf result (pauses.find_function id (indexed_text self.now.globals.index)) }
     {
         match self.globals.index.find(id) {
             Some(Item::Function { function }) => Some(function),
@@ -66,7 +66,7 @@ impl<'p> Source<'p> {
     /// Where a call lands.
     pub fn landing(&self, s: &Stmt) -> Option<Landing<'p>>
         requires { OneText self.now }
-        ensures { CallLands (text_of self.now.globals.index) (plain.statement s.now) result }
+        ensures { CallLands (indexed_text self.now.globals.index) (plain.statement s.now) result }
     {
         lands(&self.globals.index, &self.landings, s)
     }
@@ -78,7 +78,7 @@ impl<'p> Source<'p> {
     /// Out of memory, also where there are more than 32 bits hold.
     pub fn added_by(&self, one: &Branch) -> Result<Added, OutOfMemory>
         requires { OneText self.now }
-        ensures { IfOk result (BranchesAdd (text_of self.now.globals.index) (plain.branches (one.now ∷ []))) }
+        ensures { IfOk result (BranchesAdd (indexed_text self.now.globals.index) (plain.branches (one.now ∷ []))) }
     {
         let added = of_branch(&self.added, one)?;
         Ok(added)

@@ -4,7 +4,7 @@ ghost use Rattle.std.specs.Prelude.{◌≡◌, map, IfOk};
 ghost use Rattle.forec_tree.specs.Plain as plain;
 ghost use Rattle.forec_kernel.specs.Plain as kernel;
 ghost use Rattle.text_kernel.specs.Lowering as lowering;
-ghost use Rattle.loop_check.specs.Views.{text_of};
+ghost use Rattle.loop_check.specs.Views.{indexed_text};
 ghost use Rattle.body_lower.specs.Views.{seen};
 
 use crate::globals::Globals;
@@ -28,7 +28,7 @@ pub fn place_if(op: Binary, place: Place) -> Option<Place>
 
 /// What a name stands for: a local hides a global.
 pub fn stands(globals: &Globals<'_>, scope: &Scope, id: u32) -> Stands
-    ensures { result ≡ lowering.stands (text_of globals.now.index) (seen scope.now) id }
+    ensures { result ≡ lowering.stands (indexed_text globals.now.index) (seen scope.now) id }
 {
     match scope.find(id) {
         Some(slot) => slot_stands(slot),
@@ -107,7 +107,7 @@ pub fn lower_term(
     scope: &Scope,
     e: &Expr,
 ) -> Result<Expression, OutOfMemory>
-    ensures { IfOk result (λ k. kernel.expr k ≡ lowering.lower_term (text_of globals.now.index) (seen scope.now) (plain.term e.now)) }
+    ensures { IfOk result (λ k. kernel.expr k ≡ lowering.lower_term (indexed_text globals.now.index) (seen scope.now) (plain.term e.now)) }
 {
     match &e.what {
         ExprKind::Number { value } => Ok(Expression::Number { value: *value }),
@@ -166,7 +166,7 @@ pub fn lower_boxed(
     scope: &Scope,
     e: &Expr,
 ) -> Result<Box<Expression>, OutOfMemory>
-    ensures { IfOk result (λ b. kernel.expr b.value ≡ lowering.lower_term (text_of globals.now.index) (seen scope.now) (plain.term e.now)) }
+    ensures { IfOk result (λ b. kernel.expr b.value ≡ lowering.lower_term (indexed_text globals.now.index) (seen scope.now) (plain.term e.now)) }
 {
     let term = lower_term(alloc, globals, scope, e)?;
     boxed_term(alloc, term)
@@ -180,7 +180,7 @@ pub fn lower_terms(
     scope: &Scope,
     list: &[Expr],
 ) -> Result<Vec<Expression>, OutOfMemory>
-    ensures { IfOk result (λ k. kernel.exprs k.items ≡ lowering.lower_terms (text_of globals.now.index) (seen scope.now) (plain.terms list.now)) }
+    ensures { IfOk result (λ k. kernel.exprs k.items ≡ lowering.lower_terms (indexed_text globals.now.index) (seen scope.now) (plain.terms list.now)) }
 {
     let mut terms = Vec::new(alloc);
     for e in list {

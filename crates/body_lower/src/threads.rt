@@ -7,9 +7,9 @@ ghost use Rattle.forec_tree.specs.Plain as plain;
 ghost use Rattle.forec_tree.specs.Terms as tree;
 ghost use Rattle.forec_tree.specs.Terms.{Text};
 ghost use Rattle.forec_kernel.specs.Plain as kernel;
-ghost use Rattle.loop_check.specs.Views.{text_of};
+ghost use Rattle.loop_check.specs.Views.{indexed_text};
 ghost use Rattle.text_kernel.specs.Lowering as lowering;
-ghost use Rattle.body_lower.specs.Views.{OneText, Same, DoneAsOne, of_thread, IsMade, IsMadeBy, threads_in, threads_of, threads_on};
+ghost use Rattle.body_lower.specs.Views.{OneText, Same, DoneAsOne, of_thread, IsMade, IsMadeBy, pending_threads, threads_of, threads_on};
 
 use crate::body::{FUEL, inlined, list};
 use crate::context::Context;
@@ -23,7 +23,7 @@ use std::alloc::Global;
 
 /// How many parameters the function of a name has.
 fn params_of(source: &Source<'_>, id: u32) -> Result<u32, OutOfMemory>
-    ensures { IfOk result (λ n. n ≡ length (lowering.params_of (pauses.find_function id (text_of source.now.globals.index)))) }
+    ensures { IfOk result (λ n. n ≡ length (lowering.param_names (pauses.find_function id (indexed_text source.now.globals.index)))) }
 {
     match source.function(id) {
         None => Ok(0),
@@ -111,7 +111,7 @@ fn translated<'p>(
 ) -> Result<Thread, OutOfMemory>
     requires text { OneText source.now }
     requires none { state.old.pending.items ≡ [] }
-    ensures { IfOk result (λ t. IsMade (text_of source.now.globals.index) one.entry t state.new) }
+    ensures { IfOk result (λ t. IsMade (indexed_text source.now.globals.index) one.entry t state.new) }
 {
     let after = sum(one.number, 1)?;
     state.thread = after;
@@ -141,7 +141,7 @@ fn stacked<'p>(
     stack: &mut Vec<Pending<'p>>,
     pending: &mut Vec<Pending<'p>>,
 ) -> Result<(), OutOfMemory>
-    ensures stack { OnOk result ((text : Text) → threads_on text stack.new.items ≡ threads_in text pending.old.items ++ threads_on text stack.old.items) }
+    ensures stack { OnOk result ((text : Text) → threads_on text stack.new.items ≡ pending_threads text pending.old.items ++ threads_on text stack.old.items) }
     ensures none { OnOk result (pending.new.items ≡ []) }
 {
     while let Some(one) = pending.pop() {
@@ -157,7 +157,7 @@ pub fn threads_below<'p>(
     mut state: State<'p>,
 ) -> Result<Vec<Thread>, OutOfMemory>
     requires { OneText source.now }
-    ensures { IfOk result (λ list. map of_thread list.items ≡ threads_of (text_of source.now.globals.index) state.entry) }
+    ensures { IfOk result (λ list. map of_thread list.items ≡ threads_of (indexed_text source.now.globals.index) state.entry) }
 {
     let mut stack = Vec::new(alloc);
     stacked(&mut stack, &mut state.pending)?;

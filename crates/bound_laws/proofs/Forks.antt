@@ -4,9 +4,9 @@ use Rattle.forec_base.specs.declared.Place.{Place}
 use Rattle.forec_base.specs.declared.Trap.{Trap}
 use Rattle.forec_kernel.specs.declared.shape.VarCopy.{VarCopy}
 use Rattle.forec_kernel.specs.Shapes.{PlainKernel}
-use Rattle.forec_kernel.specs.Texts.{Status, Running, Paused, Ended, Gone, Trapped, Text, Done, Fork, Held, Threads, no_threads, child, child_of, some_running, all_over, runs_at, first_trap, ended_are_gone, handed_down, uses_of}
+use Rattle.forec_kernel.specs.Texts.{Status, Running, Paused, Ended, Gone, Trapped, RunningText, Done, Fork, Held, Threads, no_threads, child, child_of, some_running, all_over, runs_at, first_trap, ended_are_gone, handed_down, uses_of}
 use Rattle.forec_kernel.specs.Combining.{Cost, Costs, Fails, join_cost}
-use Rattle.forec_kernel.specs.Steps.{Path, Move, Finished, Halts, Moves, Traps, joined, combined, thread_after, units_of, Stepped, place_at, path_below, text_move, child_move, Woken, Wakes, Stays, text_if, status_of, waking_units, woken, woken_children}
+use Rattle.forec_kernel.specs.Steps.{Path, Move, Finished, Halts, Moves, Traps, joined, combined, thread_after, move_units, SteppedChildren, child_place, path_below, text_move, child_move, Woken, Wakes, Stays, text_if, status_of, waking_units, woken, woken_children}
 use Rattle.forec_kernel.proofs.Measure.{place_runs}
 use Rattle.tick_bounds.specs.Bound.{join_bound, function_bound}
 use Rattle.bound_laws.proofs.Within.{Leaves, AfterWake, Rests, AfterMove, Within, rests_more, within_more, within_fewer, done_within}
@@ -15,7 +15,7 @@ use Rattle.bound_laws.proofs.Joins.{numbers, join_units, join_le}
 -- ---- children
 
 -- a child, by its status: what it costs in this tick, and in later ones
-abbrev pub ChildWithin : PlainKernel → ℕ → ℕ → ℕ → ℕ → Text → List ℤ → List VarCopy → Status → Type 0
+abbrev pub ChildWithin : PlainKernel → ℕ → ℕ → ℕ → ℕ → RunningText → List ℤ → List VarCopy → Status → Type 0
 ChildWithin k m n whole t R w c Running = Within k (uses_of k t) whole m n R w c
 ChildWithin k m n whole t R w c Paused = Rests k (uses_of k t) (Within k (uses_of k t) whole m) whole R w
 ChildWithin k m n whole t R w c Ended = Unit {0}
@@ -39,7 +39,7 @@ AllWithin k m n whole (child t R w c st rest) =
     Shared n whole (λ n1 whole1. ChildWithin k m n1 whole1 t R w c st) (λ n2 whole2. AllWithin k m n2 whole2 rest)
 
 -- children that have come to rest: each is paused or gone
-abbrev pub ChildRests : PlainKernel → ℕ → ℕ → ℕ → Text → List ℤ → Status → Type 0
+abbrev pub ChildRests : PlainKernel → ℕ → ℕ → ℕ → RunningText → List ℤ → Status → Type 0
 ChildRests k m whole t R w Running = ⊥
 ChildRests k m whole t R w Paused = Rests k (uses_of k t) (Within k (uses_of k t) whole m) whole R w
 ChildRests k m whole t R w Ended = ⊥
@@ -51,13 +51,13 @@ AllRest k m whole no_threads = Unit {0}
 AllRest k m whole (child t R w c st rest) =
     Shared 0 whole (λ n1 whole1. ChildRests k m whole1 t R w st) (λ n2 whole2. AllRest k m whole2 rest)
 
-rests_fewer : (k : PlainKernel) (uses : List ℕ) (m whole : ℕ) (R : Text) (w : List ℤ) → Rests k uses (Within k uses whole (suc m)) whole R w →
+rests_fewer : (k : PlainKernel) (uses : List ℕ) (m whole : ℕ) (R : RunningText) (w : List ℤ) → Rests k uses (Within k uses whole (suc m)) whole R w →
     Rests k uses (Within k uses whole m) whole R w
 rests_fewer k uses m whole R w h =
     rests_more k uses (Within k uses whole (suc m)) (Within k uses whole m) whole whole (omega arith)
     (λ l S v c x. within_more k uses whole whole (omega arith) m l (l + 0) S v c (omega arith) (within_fewer k uses whole m l S v c x)) R w h
 
-child_fewer : (k : PlainKernel) (m n whole t : ℕ) (R : Text) (w : List ℤ) (c : List VarCopy) (st : Status) →
+child_fewer : (k : PlainKernel) (m n whole t : ℕ) (R : RunningText) (w : List ℤ) (c : List VarCopy) (st : Status) →
     ChildWithin k (suc m) n whole t R w c st → ChildWithin k m n whole t R w c st
 child_fewer k m n whole t R w c Running h = within_fewer k (uses_of k t) whole m n R w c h
 child_fewer k m n whole t R w c Paused h = rests_fewer k (uses_of k t) m whole R w h
@@ -79,7 +79,7 @@ all_fewer k m n whole (child t R w c st rest) h =
       more = all_fewer k m h.n2 h.whole2 rest h.more;
     }
 
-rest_fewer : (k : PlainKernel) (m whole t : ℕ) (R : Text) (w : List ℤ) (st : Status) → ChildRests k (suc m) whole t R w st →
+rest_fewer : (k : PlainKernel) (m whole t : ℕ) (R : RunningText) (w : List ℤ) (st : Status) → ChildRests k (suc m) whole t R w st →
     ChildRests k m whole t R w st
 rest_fewer k m whole t R w Running h = h
 rest_fewer k m whole t R w Paused h = rests_fewer k (uses_of k t) m whole R w h
@@ -103,18 +103,18 @@ all_rest_fewer k m whole (child t R w c st rest) h =
 
 -- ---- a step of one child
 
-pub record AllLeft (k : PlainKernel) (m most whole : ℕ) (s : Stepped) : Type 0 where
+pub record AllLeft (k : PlainKernel) (m most whole : ℕ) (s : SteppedChildren) : Type 0 where
   pub left : ℕ
   pub fits : s.units + left ≤ most
   pub goes : AllWithin k m left whole s.children
 
-one_step : (k : PlainKernel) (m n n1 n2 whole whole1 whole2 t : ℕ) (R : Text) (w : List ℤ) (c : List VarCopy) (rest : Threads) →
+one_step : (k : PlainKernel) (m n n1 n2 whole whole1 whole2 t : ℕ) (R : RunningText) (w : List ℤ) (c : List VarCopy) (rest : Threads) →
     n1 + n2 ≤ n → whole1 + whole2 ≤ whole → AllWithin k m n2 whole2 rest → (mv : Move) →
     AfterMove (Within k (uses_of k t) whole1 m) (Rests k (uses_of k t) (Within k (uses_of k t) whole1 m) whole1 R w) n1 mv →
     AllLeft k m n whole
     (record {
       children = child_of (thread_after (record { number = t; text = R; words = w; copies = c; status = Running }) mv) rest;
-      units = units_of mv;
+      units = move_units mv;
     })
 one_step k m n n1 n2 whole whole1 whole2 t R w c rest fits wholes more Finished h =
     record {
@@ -214,7 +214,7 @@ rests_by k m n whole (child b R w c (Trapped place trap) rest) h e t = cc
 
 -- ---- waking
 
-one_wakes : (k : PlainKernel) (m whole whole1 whole2 t : ℕ) (R : Text) (w : List ℤ) (c : List VarCopy) (s : Stepped) →
+one_wakes : (k : PlainKernel) (m whole whole1 whole2 t : ℕ) (R : RunningText) (w : List ℤ) (c : List VarCopy) (s : SteppedChildren) →
     whole1 + whole2 ≤ whole → AllLeft k m whole2 whole2 s → (r : Woken) → AfterWake (Within k (uses_of k t) whole1 m) whole1 w c r →
     AllLeft k m whole whole (record { children = child t (text_if R r) w c (status_of r) s.children; units = waking_units r + s.units })
 one_wakes k m whole whole1 whole2 t R w c s wholes more (Wakes R' u) h =
@@ -282,7 +282,7 @@ all_wake k m whole uses copies (child t R w c (Trapped place trap) rest) h = abs
 
 -- ---- the children's numbers stay
 
-numbers_after : (k : PlainKernel) (t : ℕ) (R : Text) (w : List ℤ) (c : List VarCopy) (rest : Threads) (mv : Move) →
+numbers_after : (k : PlainKernel) (t : ℕ) (R : RunningText) (w : List ℤ) (c : List VarCopy) (rest : Threads) (mv : Move) →
     numbers (child_of (thread_after (record { number = t; text = R; words = w; copies = c; status = Running }) mv) rest) ≡ t ∷ numbers rest
 numbers_after k t R w c rest Finished = refl
 numbers_after k t R w c rest Halts = refl
@@ -358,18 +358,18 @@ module _ (k : PlainKernel) (uses : List ℕ) (whole : ℕ) (ts : List ℕ) where
       AfterMove (Within k uses (whole + joint) m) Rest (n + joint)
       (elim b [
         | true ↦
-            let s = child_move k (path_below path cs) (place_at path cs) cs in Moves (Fork s.children) words copies s.units
+            let s = child_move k (path_below path cs) (child_place path cs) cs in Moves (Fork s.children) words copies s.units
         | false ↦ joined (record { kernel = k; uses = uses }) words copies cs (first_trap cs)
       ])
   fork_move m n path words copies cs Rest e ih held h true r =
       let runs = place_runs path cs r in
-      let s = children_step k m n whole (path_below path cs) (place_at path cs) cs h runs in
+      let s = children_step k m n whole (path_below path cs) (child_place path cs) cs h runs in
       let fits = s.fits in
       record {
         left = s.left + joint;
         fits = omega arith;
-        goes = ih s.left (child_move k (path_below path cs) (place_at path cs) cs).children
-            (numbers_step k (path_below path cs) (place_at path cs) cs runs ∙ e) s.goes words copies;
+        goes = ih s.left (child_move k (path_below path cs) (child_place path cs) cs).children
+            (numbers_step k (path_below path cs) (child_place path cs) cs runs ∙ e) s.goes words copies;
       }
   fork_move m n path words copies cs Rest e ih held h false r =
       joined_within m n words copies cs Rest e (first_trap cs) (λ t. held r t)

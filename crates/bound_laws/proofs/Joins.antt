@@ -6,7 +6,7 @@ use Rattle.forec_kernel.specs.declared.shape.VarCopy.{VarCopy}
 use Rattle.forec_kernel.specs.Shapes.{PlainKernel}
 use Rattle.forec_kernel.specs.Values.{Value, Gives, Raises, more_units, call, copy_of}
 use Rattle.forec_kernel.specs.Texts.{Threads, no_threads, child, is_active, uses_of}
-use Rattle.forec_kernel.specs.Combining.{Share, contains, shares, takes_part, taking_part, Joint, fold_calls, variable_calls, variable_of, combine_of, part_of, calls_of, calls_from, calls_at, count_threads, in_order, Cost, Costs, Fails, more_cost, cost_of, join_cost}
+use Rattle.forec_kernel.specs.Combining.{Share, contains, shares, takes_part, taking_part, Joint, fold_calls, variable_calls, variable_of, combine_of, part_of, joint_calls, calls_from, calls_at, count_threads, calls_in_order, Cost, Costs, Fails, more_cost, cost_of, join_cost}
 use Rattle.forec_kernel.specs.WellFormed.{users}
 use Rattle.tick_bounds.specs.Bound.{calls_bound, join_bound, function_bound}
 use Rattle.bound_laws.proofs.ValueBounds.{cost, more_le, call_le}
@@ -71,9 +71,9 @@ at_le : (j : ℕ) (css : List (List Joint)) → units_sum (calls_at j css) + all
 at_le j [] = omega arith
 at_le j (cs ∷ css) = omega (arith, from_le j cs, at_le j css, sum_append (calls_from j cs) (calls_at j css))
 
-in_order_le : (n j : ℕ) (css : List (List Joint)) → units_sum (in_order j n css) ≤ all_from j css
+in_order_le : (n j : ℕ) (css : List (List Joint)) → units_sum (calls_in_order j n css) ≤ all_from j css
 in_order_le zero j css = omega arith
-in_order_le (suc n) j css = omega (arith, in_order_le n (suc j) css, at_le j css, sum_append (calls_at j css) (in_order (suc j) n css))
+in_order_le (suc n) j css = omega (arith, in_order_le n (suc j) css, at_le j css, sum_append (calls_at j css) (calls_in_order (suc j) n css))
 
 -- ---- the calls for one variable
 
@@ -144,7 +144,7 @@ variable_le k (Some g) (s ∷ ss) m h =
 -- ---- all variables of one join
 
 calls_le : (k : PlainKernel) (cs : Threads) (vs : List ℕ) (copies : List VarCopy) →
-    all_from 0 (calls_of k cs vs copies) ≤ join_bound k (function_bound k) (numbers cs) vs
+    all_from 0 (joint_calls k cs vs copies) ≤ join_bound k (function_bound k) (numbers cs) vs
 calls_le k cs [] copies = omega arith
 calls_le k cs (v ∷ vs) [] = omega arith
 calls_le k cs (v ∷ vs) (c ∷ copies) =
@@ -159,5 +159,5 @@ calls_le k cs (v ∷ vs) (c ∷ copies) =
 pub join_le : (k : PlainKernel) (cs : Threads) (uses : List ℕ) (copies : List VarCopy) →
     join_units (join_cost k cs uses copies) ≤ join_bound k (function_bound k) (numbers cs) uses
 join_le k cs uses copies =
-    let css = calls_of k cs uses copies in
-    omega (arith, cost_of_le (in_order 0 (count_threads cs) css), in_order_le (count_threads cs) 0 css, calls_le k cs uses copies)
+    let css = joint_calls k cs uses copies in
+    omega (arith, cost_of_le (calls_in_order 0 (count_threads cs) css), in_order_le (count_threads cs) 0 css, calls_le k cs uses copies)

@@ -6,8 +6,8 @@ use Rattle.forec_kernel.specs.declared.shape.VarCopy.{VarCopy}
 use Rattle.forec_kernel.specs.Terms.{Expr, Stmt}
 use Rattle.forec_kernel.specs.Shapes.{PlainKernel}
 use Rattle.forec_kernel.specs.Values.{setting}
-use Rattle.forec_kernel.specs.Texts.{Loop, After, Again, Text, Done, Then, Turning, Watch, Last, text_of}
-use Rattle.forec_kernel.specs.Steps.{evaluated, Move, Finished, Halts, Moves, Traps, turned, move_before, move_watched, move_last, text_move, Woken, Wakes, more_woken, woken_in, refilled, watched_on, woken}
+use Rattle.forec_kernel.specs.Texts.{Loop, After, Again, RunningText, Done, Then, Turning, Watch, Last, text_of}
+use Rattle.forec_kernel.specs.Steps.{evaluated, Move, Finished, Halts, Moves, Traps, turned_loop, move_before, move_watched, move_last, text_move, Woken, Wakes, more_woken, woken_in, refilled, watched_on, woken}
 use Rattle.tick_bounds.specs.Bound.{expr_bound, function_bound}
 use Rattle.bound_laws.specs.Paced.{KeepsOn, NotEnded, NeverEnds}
 use Rattle.bound_laws.proofs.ValueBounds.{cost, val_le, call_le}
@@ -23,9 +23,9 @@ evaluated_le k uses words copies e =
 -- ---- a body that never ends in the tick of its start: what follows it costs nothing until the next wake
 
 module _ (k : PlainKernel) (uses : List ℕ) (size whole whole' d' : ℕ) (wholes : whole + d' ≤ whole') where
-  never_move : (m n : ℕ) (a : After) (R : Text) (words : List ℤ) → length words ≡ size →
-      ((l : ℕ) (S : Text) (w : List ℤ) (c : List VarCopy) → length w ≡ size → KeepsOn k uses m S w c → Within k uses whole m l S w c → Within k uses whole' m l (Then S a) w c) →
-      ((l : ℕ) (S : Text) (w : List ℤ) (c : List VarCopy) → length w ≡ size → Within k uses whole m l S w c →
+  never_move : (m n : ℕ) (a : After) (R : RunningText) (words : List ℤ) → length words ≡ size →
+      ((l : ℕ) (S : RunningText) (w : List ℤ) (c : List VarCopy) → length w ≡ size → KeepsOn k uses m S w c → Within k uses whole m l S w c → Within k uses whole' m l (Then S a) w c) →
+      ((l : ℕ) (S : RunningText) (w : List ℤ) (c : List VarCopy) → length w ≡ size → Within k uses whole m l S w c →
       Within k uses whole' m (l + d') (Then S (refilled a)) w c) →
       (copies : List VarCopy) (mv : Move) → Keeps size mv → NotEnded (KeepsOn k uses m) mv →
       AfterMove (Within k uses whole m) (Rests k uses (Within k uses whole m) whole R words) n mv →
@@ -39,7 +39,7 @@ module _ (k : PlainKernel) (uses : List ℕ) (size whole whole' d' : ℕ) (whole
   never_move m n a R words e ih ih' copies (Traps place trap u) size_kept keeps h = h
 
   pub never_within : (m n : ℕ) (loop : Loop) → Follows k uses size whole whole' m d' (Again (record loop { left = loop.bound })) →
-      (R : Text) (words : List ℤ) (copies : List VarCopy) → length words ≡ size → KeepsOn k uses m R words copies → Within k uses whole m n R words copies →
+      (R : RunningText) (words : List ℤ) (copies : List VarCopy) → length words ≡ size → KeepsOn k uses m R words copies → Within k uses whole m n R words copies →
       Within k uses whole' m n (Then R (Again loop)) words copies
   never_within zero n loop next R words copies e keeps h = tt
   never_within (suc m) n loop next R words copies e keeps h =
@@ -63,8 +63,8 @@ module _ (k : PlainKernel) (size : ℕ) (uses : List ℕ) (e : Expr) (body : Stm
     turning bound left = record { test = e; bound = bound; left = left; body = body; place = place }
 
     after_test : (N : OfText) (Rest : Type 0) (n : ℕ) (w : List ℤ) (c : List VarCopy) (bound left : Option ℕ) (t : Bool) →
-        ((l : ℕ) (w : List ℤ) (c : List VarCopy) → N l Done w c) → 1 ≤ n → AfterMove N Rest n (turned (turning bound left) left w c) →
-        AfterMove N Rest n (elim t [ true ↦ Moves Done w c 1 | false ↦ turned (turning bound left) left w c ])
+        ((l : ℕ) (w : List ℤ) (c : List VarCopy) → N l Done w c) → 1 ≤ n → AfterMove N Rest n (turned_loop (turning bound left) left w c) →
+        AfterMove N Rest n (elim t [ true ↦ Moves Done w c 1 | false ↦ turned_loop (turning bound left) left w c ])
     after_test N Rest n w c bound left true done fits h = record { left = 0; fits = omega arith; goes = done 0 w c }
     after_test N Rest n w c bound left false done fits h = h
 
@@ -78,7 +78,7 @@ module _ (k : PlainKernel) (size : ℕ) (uses : List ℕ) (e : Expr) (body : Stm
 
       bounded_turn : (m l : ℕ) (w : List ℤ) (c : List VarCopy) (Rest : Type 0) → length w ≡ size →
           ((l : ℕ) (w : List ℤ) (c : List VarCopy) → length w ≡ size → Within k uses most m (rest_of l) (Turning (turning (Some n) (Some l))) w c) →
-          AfterMove (Within k uses most m) Rest (1 + l * (a + 1 + b)) (turned (turning (Some n) (Some l)) (Some l) w c)
+          AfterMove (Within k uses most m) Rest (1 + l * (a + 1 + b)) (turned_loop (turning (Some n) (Some l)) (Some l) w c)
       bounded_turn m zero w c Rest s ih = omega arith
       bounded_turn m (suc l) w c Rest s ih =
           record {
@@ -93,7 +93,7 @@ module _ (k : PlainKernel) (size : ℕ) (uses : List ℕ) (e : Expr) (body : Stm
       bounded_within (suc m) l w c s =
           let Rest = Rests k uses (Within k uses most m) most (Turning (turning (Some n) (Some l))) w in
           λ path. with_within (Within k uses most m) Rest (evaluated (record { kernel = k; uses = uses }) w c e)
-          (λ x. elim (is_zero x) [ true ↦ Moves Done w c 1 | false ↦ turned (turning (Some n) (Some l)) (Some l) w c ]) a (1 + l * (a + 1 + b))
+          (λ x. elim (is_zero x) [ true ↦ Moves Done w c 1 | false ↦ turned_loop (turning (Some n) (Some l)) (Some l) w c ]) a (1 + l * (a + 1 + b))
           (rest_of l) (evaluated_le k uses w c e)
           (λ x. after_test (Within k uses most m) Rest (1 + l * (a + 1 + b)) w c (Some n) (Some l) (is_zero x)
           (λ i w' c'. done_within k uses most m i w' c') (omega arith)
@@ -109,7 +109,7 @@ module _ (k : PlainKernel) (size : ℕ) (uses : List ℕ) (e : Expr) (body : Stm
       unbounded_within (suc m) w c s =
           let Rest = Rests k uses (Within k uses twice m) twice (Turning (turning None None)) w in
           λ path. with_within (Within k uses twice m) Rest (evaluated (record { kernel = k; uses = uses }) w c e)
-          (λ x. elim (is_zero x) [ true ↦ Moves Done w c 1 | false ↦ turned (turning None None) None w c ]) a (1 + b) (a + 1 + b)
+          (λ x. elim (is_zero x) [ true ↦ Moves Done w c 1 | false ↦ turned_loop (turning None None) None w c ]) a (1 + b) (a + 1 + b)
           (evaluated_le k uses w c e)
           (λ x. after_test (Within k uses twice m) Rest (1 + b) w c None None (is_zero x) (λ i w' c'. done_within k uses twice m i w' c') (omega arith)
           (record {
@@ -122,8 +122,8 @@ module _ (k : PlainKernel) (size : ℕ) (uses : List ℕ) (e : Expr) (body : Stm
 -- ---- aborts
 
 module _ (k : PlainKernel) (uses : List ℕ) (whole whole' : ℕ) where
-  last_move : (m n : ℕ) (R : Text) (words : List ℤ) (copies : List VarCopy) →
-      ((l : ℕ) (S : Text) (w : List ℤ) (c : List VarCopy) → Within k uses whole m l S w c → Within k uses whole' m (l + 0) (Last S) w c) →
+  last_move : (m n : ℕ) (R : RunningText) (words : List ℤ) (copies : List VarCopy) →
+      ((l : ℕ) (S : RunningText) (w : List ℤ) (c : List VarCopy) → Within k uses whole m l S w c → Within k uses whole' m (l + 0) (Last S) w c) →
       (mv : Move) → AfterMove (Within k uses whole m) (Rests k uses (Within k uses whole m) whole R words) n mv →
       AfterMove (Within k uses whole' m) (Rests k uses (Within k uses whole' m) whole' (Last R) words) n (move_last words copies mv)
   last_move m n R words copies ih Finished h = record { left = 0; fits = omega arith; goes = done_within k uses whole' m 0 words copies }
@@ -132,7 +132,7 @@ module _ (k : PlainKernel) (uses : List ℕ) (whole whole' : ℕ) where
       leaves_by (Within k uses whole m) (Within k uses whole' m) n n u 0 S (Last S) w c (omega arith) (λ l x. ih l S w c x) h
   last_move m n R words copies ih (Traps place trap u) h = h
 
-  pub last_within : (m n n' : ℕ) (R : Text) (words : List ℤ) (copies : List VarCopy) → n ≤ n' → Within k uses whole m n R words copies →
+  pub last_within : (m n n' : ℕ) (R : RunningText) (words : List ℤ) (copies : List VarCopy) → n ≤ n' → Within k uses whole m n R words copies →
       Within k uses whole' m n' (Last R) words copies
   last_within zero n n' R words copies fits h = tt
   last_within (suc m) n n' R words copies fits h =
@@ -141,7 +141,7 @@ module _ (k : PlainKernel) (uses : List ℕ) (whole whole' : ℕ) where
 
   module _ (e : Expr) (wholes : expr_bound (function_bound k) e + 1 + whole ≤ whole') where
     watch_wake : (m : ℕ) (weak : Bool) (words : List ℤ) (copies : List VarCopy) (x : ℤ) (zero_test : Bool) (r : Woken) →
-        ((l : ℕ) (S : Text) (w : List ℤ) (c : List VarCopy) → Within k uses whole m l S w c → Within k uses whole' m (l + 0) (Watch weak e S) w c) →
+        ((l : ℕ) (S : RunningText) (w : List ℤ) (c : List VarCopy) → Within k uses whole m l S w c → Within k uses whole' m (l + 0) (Watch weak e S) w c) →
         AfterWake (Within k uses whole m) whole words copies r →
         AfterWake (Within k uses whole' m) whole words copies (watched_on weak e x r)
     watch_wake m false words copies x zero_test r ih h = pick (is_zero x)
@@ -161,8 +161,8 @@ module _ (k : PlainKernel) (uses : List ℕ) (whole whole' : ℕ) where
             wake_by (Within k uses whole m) (Within k uses whole' m) whole whole 0 Last words copies r (omega arith)
             (λ l S y. last_within m l (l + 0) S words copies (omega arith) y) h
 
-    watch_move : (m n : ℕ) (weak : Bool) (R : Text) (words : List ℤ) (copies : List VarCopy) →
-        ((l : ℕ) (S : Text) (w : List ℤ) (c : List VarCopy) → Within k uses whole m l S w c → Within k uses whole' m (l + 0) (Watch weak e S) w c) →
+    watch_move : (m n : ℕ) (weak : Bool) (R : RunningText) (words : List ℤ) (copies : List VarCopy) →
+        ((l : ℕ) (S : RunningText) (w : List ℤ) (c : List VarCopy) → Within k uses whole m l S w c → Within k uses whole' m (l + 0) (Watch weak e S) w c) →
         (mv : Move) → AfterMove (Within k uses whole m) (Rests k uses (Within k uses whole m) whole R words) n mv →
         AfterMove (Within k uses whole' m) (Rests k uses (Within k uses whole' m) whole' (Watch weak e R) words) n (move_watched weak e words copies mv)
     watch_move m n weak R words copies ih Finished h = record { left = 0; fits = omega arith; goes = done_within k uses whole' m 0 words copies }
@@ -176,7 +176,7 @@ module _ (k : PlainKernel) (uses : List ℕ) (whole whole' : ℕ) where
         leaves_by (Within k uses whole m) (Within k uses whole' m) n n u 0 S (Watch weak e S) w c (omega arith) (λ l x. ih l S w c x) h
     watch_move m n weak R words copies ih (Traps place trap u) h = h
 
-    pub watch_within : (m n n' : ℕ) (weak : Bool) (R : Text) (words : List ℤ) (copies : List VarCopy) → n ≤ n' →
+    pub watch_within : (m n n' : ℕ) (weak : Bool) (R : RunningText) (words : List ℤ) (copies : List VarCopy) → n ≤ n' →
         Within k uses whole m n R words copies → Within k uses whole' m n' (Watch weak e R) words copies
     watch_within zero n n' weak R words copies fits h = tt
     watch_within (suc m) n n' weak R words copies fits h =

@@ -9,25 +9,25 @@ use Rattle.forec_kernel.specs.declared.shape.VarCopy.{VarCopy}
 use Rattle.forec_kernel.specs.Terms.{Expr, Num, Branch, Stmt, Set, Seq, If, While, Pause, Par, Enter, Stmts, no_stmts, more_stmts}
 use Rattle.forec_kernel.specs.Shapes.{PlainKernel}
 use Rattle.forec_kernel.specs.Values.{Value, Gives, Raises, Values, AllGive, OneRaises, Setting, setting, Sight, vals}
-use Rattle.forec_kernel.specs.Texts.{Loop, After, Go_on, Again, Status, Running, Paused, Ended, Gone, Trapped, Text, Done, Then, Turning, Fork, Held, Watch, Threads, no_threads, child, child_of, text_of, after_text, all_over, some_running, runs_at, first_trap, ended_are_gone, uses_of, words_of, params_of, body_of}
+use Rattle.forec_kernel.specs.Texts.{Loop, After, Go_on, Again, Status, Running, Paused, Ended, Gone, Trapped, RunningText, Done, Then, Turning, Fork, Held, Watch, Threads, no_threads, child, child_of, text_of, after_text, all_over, some_running, runs_at, first_trap, ended_are_gone, uses_of, words_of, params_of, body_of}
 use Rattle.forec_kernel.specs.Combining.{Cost, Costs, Fails, join_cost}
-use Rattle.forec_kernel.specs.Steps.{Path, Owner, evaluated, Move, Finished, Halts, Moves, Traps, more_move, move_with, turned, Arguments, Ready, Refused, arguments_then, arguments, started, forked, combined, joined, thread_after, move_before, move_watched, place_at, path_below, text_move, child_move}
+use Rattle.forec_kernel.specs.Steps.{Path, Owner, evaluated, Move, Finished, Halts, Moves, Traps, more_move, move_with, turned_loop, Arguments, Ready, Refused, arguments_then, arguments, started, forked, combined, joined, thread_after, move_before, move_watched, child_place, path_below, text_move, child_move}
 use Rattle.forec_kernel.proofs.Measure.{place_runs}
 use Rattle.bound_laws.specs.Paced.{KeepsOn, NotEnded, NeverEnds}
 use Rattle.bound_laws.proofs.Lengths.{Keeps, keeps_size, move_keeps, taken_length}
 
 abbrev pub AfterText : Type 1
-AfterText = Text → List ℤ → List VarCopy → Type 0
+AfterText = RunningText → List ℤ → List VarCopy → Type 0
 
 -- ---- fewer steps
 
-not_ended_by : (N N' : AfterText) (m : Move) → ((R : Text) (w : List ℤ) (c : List VarCopy) → N R w c → N' R w c) → NotEnded N m → NotEnded N' m
+not_ended_by : (N N' : AfterText) (m : Move) → ((R : RunningText) (w : List ℤ) (c : List VarCopy) → N R w c → N' R w c) → NotEnded N m → NotEnded N' m
 not_ended_by N N' Finished go h = h
 not_ended_by N N' Halts go h = tt
 not_ended_by N N' (Moves R w c u) go h = go R w c h
 not_ended_by N N' (Traps place trap u) go h = tt
 
-pub keeps_fewer : (k : PlainKernel) (uses : List ℕ) (m : ℕ) (R : Text) (w : List ℤ) (c : List VarCopy) → KeepsOn k uses (suc m) R w c →
+pub keeps_fewer : (k : PlainKernel) (uses : List ℕ) (m : ℕ) (R : RunningText) (w : List ℤ) (c : List VarCopy) → KeepsOn k uses (suc m) R w c →
     KeepsOn k uses m R w c
 keeps_fewer k uses zero R w c h = tt
 keeps_fewer k uses (suc m) R w c h =
@@ -58,33 +58,33 @@ module _ (k : PlainKernel) (size : ℕ) (uses : List ℕ) where
   abbrev pub Never : ℕ → AfterText
   Never m R w c = KeepsOn k uses m R w c
 
-  abbrev pub NeverText : Text → Type 0
+  abbrev pub NeverText : RunningText → Type 0
   NeverText R = (m : ℕ) (w : List ℤ) (c : List VarCopy) → length w ≡ size → Never m R w c
 
   -- ---- what goes on, goes on in a context
 
   before_never : (m : ℕ) (a : After) (w : List ℤ) (c : List VarCopy) →
-      ((R : Text) (w : List ℤ) (c : List VarCopy) → Never m R w c → Never m (Then R a) w c) → (mv : Move) → NotEnded (Never m) mv →
+      ((R : RunningText) (w : List ℤ) (c : List VarCopy) → Never m R w c → Never m (Then R a) w c) → (mv : Move) → NotEnded (Never m) mv →
       NotEnded (Never m) (move_before a w c mv)
   before_never m a w c ih Finished h = absurd h
   before_never m a w c ih Halts h = tt
   before_never m a w c ih (Moves R w' c' u) h = ih R w' c' h
   before_never m a w c ih (Traps place trap u) h = tt
 
-  pub then_never : (m : ℕ) (a : After) (R : Text) (w : List ℤ) (c : List VarCopy) → Never m R w c → Never m (Then R a) w c
+  pub then_never : (m : ℕ) (a : After) (R : RunningText) (w : List ℤ) (c : List VarCopy) → Never m R w c → Never m (Then R a) w c
   then_never zero a R w c h = tt
   then_never (suc m) a R w c h =
       λ path. before_never m a w c (λ R' w' c' x. then_never m a R' w' c' x) (text_move k path uses w c R) (h path)
 
   watched_never : (m : ℕ) (weak : Bool) (e : Expr) (w : List ℤ) (c : List VarCopy) →
-      ((R : Text) (w : List ℤ) (c : List VarCopy) → Never m R w c → Never m (Watch weak e R) w c) → (mv : Move) → NotEnded (Never m) mv →
+      ((R : RunningText) (w : List ℤ) (c : List VarCopy) → Never m R w c → Never m (Watch weak e R) w c) → (mv : Move) → NotEnded (Never m) mv →
       NotEnded (Never m) (move_watched weak e w c mv)
   watched_never m weak e w c ih Finished h = absurd h
   watched_never m weak e w c ih Halts h = tt
   watched_never m weak e w c ih (Moves R w' c' u) h = ih R w' c' h
   watched_never m weak e w c ih (Traps place trap u) h = tt
 
-  pub watch_never : (m : ℕ) (weak : Bool) (e : Expr) (R : Text) (w : List ℤ) (c : List VarCopy) → Never m R w c → Never m (Watch weak e R) w c
+  pub watch_never : (m : ℕ) (weak : Bool) (e : Expr) (R : RunningText) (w : List ℤ) (c : List VarCopy) → Never m R w c → Never m (Watch weak e R) w c
   watch_never zero weak e R w c h = tt
   watch_never (suc m) weak e R w c h =
       λ path. watched_never m weak e w c (λ R' w' c' x. watch_never m weak e R' w' c' x) (text_move k path uses w c R) (h path)
@@ -92,14 +92,14 @@ module _ (k : PlainKernel) (size : ℕ) (uses : List ℕ) where
   -- ---- what follows goes on, whatever stands before it
 
   follows_move : (m : ℕ) (a : After) (w : List ℤ) (c : List VarCopy) → Never m (after_text a) w c →
-      ((R : Text) (w : List ℤ) (c : List VarCopy) → length w ≡ size → Never m (Then R a) w c) → (mv : Move) → Keeps size mv →
+      ((R : RunningText) (w : List ℤ) (c : List VarCopy) → length w ≡ size → Never m (Then R a) w c) → (mv : Move) → Keeps size mv →
       NotEnded (Never m) (move_before a w c mv)
   follows_move m a w c next ih Finished keeps = next
   follows_move m a w c next ih Halts keeps = tt
   follows_move m a w c next ih (Moves R w' c' u) keeps = ih R w' c' keeps
   follows_move m a w c next ih (Traps place trap u) keeps = tt
 
-  pub follows_never : (a : After) → NeverText (after_text a) → (m : ℕ) (R : Text) (w : List ℤ) (c : List VarCopy) → length w ≡ size →
+  pub follows_never : (a : After) → NeverText (after_text a) → (m : ℕ) (R : RunningText) (w : List ℤ) (c : List VarCopy) → length w ≡ size →
       Never m (Then R a) w c
   follows_never a next zero R w c e = tt
   follows_never a next (suc m) R w c e =
@@ -139,7 +139,7 @@ module _ (k : PlainKernel) (size : ℕ) (uses : List ℕ) where
   -- ---- loops whose first test holds
 
   turned_never : (m : ℕ) (loop : Loop) (left : Option ℕ) (w : List ℤ) (c : List VarCopy) → Never m (text_of loop.body) w c →
-      NotEnded (Never m) (turned loop left w c)
+      NotEnded (Never m) (turned_loop loop left w c)
   turned_never m loop None w c h = then_never m (Again loop) (text_of loop.body) w c h
   turned_never m loop (Some zero) w c h = tt
   turned_never m loop (Some (suc l)) w c h = then_never m (Again (record loop { left = Some l })) (text_of loop.body) w c h
@@ -149,10 +149,10 @@ module _ (k : PlainKernel) (size : ℕ) (uses : List ℕ) where
   turning_never zero loop w c z t h = tt
   turning_never (suc m) loop w c z t h =
       λ path. with_not_ended (Never m) (evaluated o w c loop.test)
-      (λ x. elim (is_zero x) [ true ↦ Moves Done w c 1 | false ↦ turned loop loop.left w c ])
+      (λ x. elim (is_zero x) [ true ↦ Moves Done w c 1 | false ↦ turned_loop loop loop.left w c ])
       (λ x u e. pick (is_zero x) (subst Holds e t))
     where
-      pick : (b : Bool) → b ≡ false → NotEnded (Never m) (elim b [ true ↦ Moves Done w c 1 | false ↦ turned loop loop.left w c ])
+      pick : (b : Bool) → b ≡ false → NotEnded (Never m) (elim b [ true ↦ Moves Done w c 1 | false ↦ turned_loop loop loop.left w c ])
       pick true e = cc
       pick false e = turned_never m loop loop.left w c (h m w c z)
 
@@ -195,7 +195,7 @@ module _ (k : PlainKernel) (size : ℕ) (uses : List ℕ) where
 
 -- ---- forks with a branch that goes on
 
-abbrev pub Lasts : PlainKernel → ℕ → ℕ → Text → List ℤ → List VarCopy → Status → Type 0
+abbrev pub Lasts : PlainKernel → ℕ → ℕ → RunningText → List ℤ → List VarCopy → Status → Type 0
 Lasts k m t R w c Running = KeepsOn k (uses_of k t) m R w c
 Lasts k m t R w c Paused = Unit {0}
 Lasts k m t R w c Ended = ⊥
@@ -206,7 +206,7 @@ abbrev pub SomeLasts : PlainKernel → ℕ → Threads → Type 0
 SomeLasts k m no_threads = ⊥
 SomeLasts k m (child t R w c st rest) = Lasts k m t R w c st ⊎ SomeLasts k m rest
 
-lasts_fewer : (k : PlainKernel) (m t : ℕ) (R : Text) (w : List ℤ) (c : List VarCopy) (st : Status) → Lasts k (suc m) t R w c st →
+lasts_fewer : (k : PlainKernel) (m t : ℕ) (R : RunningText) (w : List ℤ) (c : List VarCopy) (st : Status) → Lasts k (suc m) t R w c st →
     Lasts k m t R w c st
 lasts_fewer k m t R w c Running h = keeps_fewer k (uses_of k t) m R w c h
 lasts_fewer k m t R w c Paused h = tt
@@ -219,7 +219,7 @@ some_fewer k m no_threads h = h
 some_fewer k m (child t R w c st rest) (inl h) = inl (lasts_fewer k m t R w c st h)
 some_fewer k m (child t R w c st rest) (inr h) = inr (some_fewer k m rest h)
 
-one_lasts : (k : PlainKernel) (m t : ℕ) (R : Text) (w : List ℤ) (c : List VarCopy) (rest : Threads) (mv : Move) →
+one_lasts : (k : PlainKernel) (m t : ℕ) (R : RunningText) (w : List ℤ) (c : List VarCopy) (rest : Threads) (mv : Move) →
     NotEnded (KeepsOn k (uses_of k t) m) mv →
     SomeLasts k m (child_of (thread_after (record { number = t; text = R; words = w; copies = c; status = Running }) mv) rest)
 one_lasts k m t R w c rest Finished h = absurd h
@@ -274,12 +274,12 @@ module _ (k : PlainKernel) (uses : List ℕ) where
           NotEnded (KeepsOn k uses m)
           (elim b [
             | true ↦
-                let s = child_move k (path_below path cs) (place_at path cs) cs in Moves (Fork s.children) w c s.units
+                let s = child_move k (path_below path cs) (child_place path cs) cs in Moves (Fork s.children) w c s.units
             | false ↦ joined (record { kernel = k; uses = uses }) w c cs (first_trap cs)
           ])
       fork_move m path cs w c true e h ih =
-          ih (child_move k (path_below path cs) (place_at path cs) cs).children
-          (step_lasts k m (path_below path cs) (place_at path cs) cs (place_runs path cs e) h)
+          ih (child_move k (path_below path cs) (child_place path cs) cs).children
+          (step_lasts k m (path_below path cs) (child_place path cs) cs (place_runs path cs e) h)
       fork_move m path cs w c false e h ih = joined_never m w c cs (first_trap cs) (λ t. not_all_over k (suc m) cs h e t)
 
   -- a par with a branch whose body never ends

@@ -8,8 +8,8 @@ use Rattle.forec_kernel.specs.declared.shape.VarCopy.{VarCopy}
 use Rattle.forec_kernel.specs.Terms.{Expr, Branch, Stmt, Nop, Set, SetAt, PutAt, Clear, Seq, If, While, Pause, Par, Enter, Return, Stmts, no_stmts, more_stmts}
 use Rattle.forec_kernel.specs.Shapes.{PlainKernel}
 use Rattle.forec_kernel.specs.Values.{Values, AllGive, OneRaises, Setting, setting, Sight, vals, index_in, fresh_words}
-use Rattle.forec_kernel.specs.Texts.{Go_on, Text, Done, Run, Turning, Fork, Watch, Last, text_of, texts_of, then_list, uses_of, words_of, params_of, body_of, handed_down}
-use Rattle.forec_kernel.specs.Steps.{Owner, evaluated, Moves, move_with, assigned, assigned_at, shared_at, entered, Arguments, Ready, Refused, arguments_then, arguments, started, forked, statement_move}
+use Rattle.forec_kernel.specs.Texts.{Go_on, RunningText, Done, Run, Turning, Fork, Watch, Last, text_of, texts_of, then_list, uses_of, words_of, params_of, body_of, handed_down}
+use Rattle.forec_kernel.specs.Steps.{Owner, evaluated, Moves, move_with, assigned, assigned_at, shared_at, entered_abort, Arguments, Ready, Refused, arguments_then, arguments, started, forked, statement_move}
 use Rattle.forec_kernel.specs.WellFormed.{threads_in, pars_of, pars_in}
 use Rattle.tick_bounds.specs.Bound.{Bounds, expr_bound, exprs_bound, args_bound, bodies_bound, join_bound, stmt_bound, stmts_bound, function_bound}
 use Rattle.tick_bounds.proofs.Agreeing.{AllAbove, EachAbove, above_left, above_right}
@@ -125,7 +125,7 @@ module _ (k : PlainKernel) (t size : ℕ) (uses : List ℕ) (thread : ℕ → �
     forked_within m Rest w c bs above (Refused place trap u) h e = omega arith
 
     entered_within : (m n : ℕ) (whole : ℕ) (weak : Bool) (e : Expr) (body : Stmt) (x : ℤ) (w : List ℤ) (c : List VarCopy) →
-        expr_bound f e + 1 + n ≤ whole → Within k uses n m n (text_of body) w c → Within k uses whole m n (entered weak e body x) w c
+        expr_bound f e + 1 + n ≤ whole → Within k uses n m n (text_of body) w c → Within k uses whole m n (entered_abort weak e body x) w c
     entered_within m n whole false e body x w c wholes h = pick (is_zero x)
       where
         pick : (b : Bool) → Within k uses whole m n (cond b (Watch false e (text_of body)) Done) w c
@@ -137,7 +137,7 @@ module _ (k : PlainKernel) (t size : ℕ) (uses : List ℕ) (thread : ℕ → �
         pick true = watch_within k uses n whole e wholes m n n true (text_of body) w c (omega arith) h
         pick false = last_within k uses n whole m n n (text_of body) w c (omega arith) h
 
-    list_within : (b : ℕ) (R : Text) (rest : Stmts) → ((m : ℕ) (w : List ℤ) (c : List VarCopy) → length w ≡ size → Within k uses b m b R w c) →
+    list_within : (b : ℕ) (R : RunningText) (rest : Stmts) → ((m : ℕ) (w : List ℤ) (c : List VarCopy) → length w ≡ size → Within k uses b m b R w c) →
         ((m : ℕ) (w : List ℤ) (c : List VarCopy) → length w ≡ size →
         Within k uses (stmts_bound k bs_of uses rest) m (stmts_bound k bs_of uses rest) (texts_of rest) w c) →
         (m : ℕ) (w : List ℤ) (c : List VarCopy) → length w ≡ size →
@@ -150,7 +150,7 @@ module _ (k : PlainKernel) (t size : ℕ) (uses : List ℕ) (thread : ℕ → �
         (λ w' c' z'. within_more k uses d (b + d) (omega arith) m d d (texts_of later) w' c' (omega arith) (g m w' c' z'))
         (λ w' c' z'. within_more k uses d (b + d) (omega arith) m d d (texts_of later) w' c' (omega arith) (g m w' c' z')) b R w c z (h m w c z)
 
-    chosen : (whole m n : ℕ) (b : Bool) (R S : Text) (w : List ℤ) (c : List VarCopy) → Within k uses whole m n R w c → Within k uses whole m n S w c →
+    chosen : (whole m n : ℕ) (b : Bool) (R S : RunningText) (w : List ℤ) (c : List VarCopy) → Within k uses whole m n R w c → Within k uses whole m n S w c →
         Within k uses whole m n (cond b R S) w c
     chosen whole m n true R S w c h g = h
     chosen whole m n false R S w c h g = g
@@ -243,7 +243,7 @@ module _ (k : PlainKernel) (t size : ℕ) (uses : List ℕ) (thread : ℕ → �
           let most = bnd (Enter weak true e body) in
           let b = bnd body in
           by_move (Enter weak true e body) most most
-          (λ m' Rest w' c' z'. with_within (Within k uses most m') Rest (evaluated o w' c' e) (λ x. Moves (entered weak e body x) w' c' 1) (expr_bound f e)
+          (λ m' Rest w' c' z'. with_within (Within k uses most m') Rest (evaluated o w' c' e) (λ x. Moves (entered_abort weak e body x) w' c' 1) (expr_bound f e)
           (1 + b) most (evaluated_le k uses w' c' e)
           (λ x. record {
             left = b;

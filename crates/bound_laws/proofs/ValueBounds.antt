@@ -7,7 +7,7 @@ use Rattle.forec_kernel.specs.declared.terms.Spot.{Spot}
 use Rattle.forec_kernel.specs.declared.terms.Spot.TheVariants as spot
 use Rattle.forec_kernel.specs.Terms.{Expr, Num, Local, LocalAt, Var, SharedAt, TableAt, Un, Bin, And, Or, Choose, Call, Exprs, no_exprs, more_exprs, Stmt, Nop, Set, SetAt, PutAt, Clear, Seq, If, While, Pause, Par, Enter, Return, Stmts, no_stmts, more_stmts}
 use Rattle.forec_kernel.specs.Shapes.{PlainKernel}
-use Rattle.forec_kernel.specs.Values.{Value, Gives, Raises, more_units, value_then, Values, AllGive, OneRaises, one_more, first_then, values_then, Setting, Sight, copy_of, word, index_in, at_index, divided, val, vals, Flow, Goes, Returns, Breaks, more_flow, flow_with, flow_then, words_alone, stored_at, stored, turns, flow, flows, returned, fresh_words, function_words, call_within}
+use Rattle.forec_kernel.specs.Values.{Value, Gives, Raises, more_units, value_then, Values, AllGive, OneRaises, one_more, first_then, values_then, Setting, Sight, copy_of, word, index_in, at_index, divided, val, vals, Flow, Goes, Returns, Breaks, more_flow, flow_with, flow_then, words_alone, stored_at, stored_flow, turns, flow, flows, flow_value, fresh_words, function_words, call_within}
 use Rattle.forec_kernel.specs.WellFormed.{function_body}
 use Rattle.tick_bounds.specs.Bound.{Bounds, expr_bound, exprs_bound, stmt_bound, stmts_bound, function_within}
 
@@ -143,7 +143,7 @@ either_flow : (b : Bool) (p q : Flow) (c : ℕ) → flow_cost p ≤ c → flow_c
 either_flow true p q c hp hq = hp
 either_flow false p q c hp hq = hq
 
-stored_le : (words : List ℤ) (to : Spot) (n : ℤ) → flow_cost (stored words to n) ≤ 1
+stored_le : (words : List ℤ) (to : Spot) (n : ℤ) → flow_cost (stored_flow words to n) ≤ 1
 stored_le words (spot.Local slot) n = omega arith
 stored_le words (spot.Variable v) n = omega arith
 
@@ -175,7 +175,7 @@ module _ (k : PlainKernel) (b : Bounds) (uses : List ℕ) (s : Setting) (calls :
     flow_le Nop words = omega arith
     flow_le (Set to e) words =
         let a = expr_bound b.function e in
-        flow_with_le (val s (words_alone words) e) (λ n. stored words to n) a 1 (a + 1) (val_le b.function s calls (words_alone words) e)
+        flow_with_le (val s (words_alone words) e) (λ n. stored_flow words to n) a 1 (a + 1) (val_le b.function s calls (words_alone words) e)
         (λ n. stored_le words to n) (omega arith)
     flow_le (SetAt slot n i e place) words =
         let a = expr_bound b.function i in
@@ -215,7 +215,7 @@ module _ (k : PlainKernel) (b : Bounds) (uses : List ℕ) (s : Setting) (calls :
         flow_then_le (flow s x words) (λ w. flows s rest w) (stmt_bound k b uses x) (stmts_bound k b uses rest)
         (stmt_bound k b uses x + stmts_bound k b uses rest) (flow_le x words) (λ w. flows_le rest w) (omega arith)
 
-returned_le : (r : Flow) (c : ℕ) → flow_cost r ≤ c → cost (returned r) ≤ c
+returned_le : (r : Flow) (c : ℕ) → flow_cost r ≤ c → cost (flow_value r) ≤ c
 returned_le (Goes words u) c h = h
 returned_le (Returns n u) c h = h
 returned_le (Breaks place trap u) c h = h

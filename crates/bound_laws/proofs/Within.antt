@@ -3,16 +3,16 @@ use Rattle.std.proofs.Common.{ℕ, zero, suc, ◌+◌, ◌≤◌, ◌≡◌, ℤ
 use Rattle.forec_kernel.specs.declared.shape.VarCopy.{VarCopy}
 use Rattle.forec_kernel.specs.Shapes.{PlainKernel}
 use Rattle.forec_kernel.specs.Values.{Value, Gives, Raises}
-use Rattle.forec_kernel.specs.Texts.{Loop, After, Go_on, Again, Text, Done, Then, Resting, after_text}
+use Rattle.forec_kernel.specs.Texts.{Loop, After, Go_on, Again, RunningText, Done, Then, Resting, after_text}
 use Rattle.forec_kernel.specs.Steps.{Path, Move, Finished, Halts, Moves, Traps, more_move, move_with, move_before, text_move, Woken, Wakes, Stays, more_woken, woken_in, woken_with, refilled, woken}
 use Rattle.bound_laws.proofs.ValueBounds.{cost}
 use Rattle.bound_laws.proofs.Lengths.{Keeps, keeps_size, move_keeps}
 
 abbrev pub OfText : Type 1
-OfText = ℕ → Text → List ℤ → List VarCopy → Type 0
+OfText = ℕ → RunningText → List ℤ → List VarCopy → Type 0
 
 -- u of at most so many units are spent, and the text keeps to `Next` with what is left
-pub record Leaves (Next : OfText) (most u : ℕ) (R : Text) (words : List ℤ) (copies : List VarCopy) : Type 0 where
+pub record Leaves (Next : OfText) (most u : ℕ) (R : RunningText) (words : List ℤ) (copies : List VarCopy) : Type 0 where
   pub left : ℕ
   pub fits : u + left ≤ most
   pub goes : Next left R words copies
@@ -22,7 +22,7 @@ AfterWake Next most words copies (Wakes R u) = Leaves Next most u R words copies
 AfterWake Next most words copies (Stays place trap u) = u ≤ most
 
 -- a halted text, whatever copies it wakes to
-abbrev pub Rests : PlainKernel → List ℕ → OfText → ℕ → Text → List ℤ → Type 0
+abbrev pub Rests : PlainKernel → List ℕ → OfText → ℕ → RunningText → List ℤ → Type 0
 Rests k uses Next whole R words = (copies : List VarCopy) → AfterWake Next whole words copies (woken k uses words copies R)
 
 abbrev pub AfterMove : OfText → Type 0 → ℕ → Move → Type 0
@@ -40,19 +40,19 @@ Within k uses whole (suc m) n R words copies =
 
 -- ---- more units, fewer steps
 
-pub leaves_by : (N N' : OfText) (most most' u d : ℕ) (R R' : Text) (words : List ℤ) (copies : List VarCopy) → most + d ≤ most' →
+pub leaves_by : (N N' : OfText) (most most' u d : ℕ) (R R' : RunningText) (words : List ℤ) (copies : List VarCopy) → most + d ≤ most' →
     ((l : ℕ) → N l R words copies → N' (l + d) R' words copies) → Leaves N most u R words copies → Leaves N' most' u R' words copies
 leaves_by N N' most most' u d R R' words copies fits go h =
     let within = h.fits in record { left = h.left + d; fits = omega arith; goes = go h.left h.goes }
 
-pub wake_by : (N N' : OfText) (most most' d : ℕ) (f : Text → Text) (words : List ℤ) (copies : List VarCopy) (r : Woken) → most + d ≤ most' →
-    ((l : ℕ) (R : Text) → N l R words copies → N' (l + d) (f R) words copies) → AfterWake N most words copies r →
+pub wake_by : (N N' : OfText) (most most' d : ℕ) (f : RunningText → RunningText) (words : List ℤ) (copies : List VarCopy) (r : Woken) → most + d ≤ most' →
+    ((l : ℕ) (R : RunningText) → N l R words copies → N' (l + d) (f R) words copies) → AfterWake N most words copies r →
     AfterWake N' most' words copies (woken_in f r)
 wake_by N N' most most' d f words copies (Wakes R u) fits go h = leaves_by N N' most most' u d R (f R) words copies fits (λ l x. go l R x) h
 wake_by N N' most most' d f words copies (Stays place trap u) fits go h = omega arith
 
 wake_more : (N N' : OfText) (most most' : ℕ) (words : List ℤ) (copies : List VarCopy) (r : Woken) → most ≤ most' →
-    ((l : ℕ) (R : Text) → N l R words copies → N' (l + 0) R words copies) → AfterWake N most words copies r →
+    ((l : ℕ) (R : RunningText) → N l R words copies → N' (l + 0) R words copies) → AfterWake N most words copies r →
     AfterWake N' most' words copies r
 wake_more N N' most most' words copies (Wakes R u) fits go h =
     leaves_by N N' most most' u 0 R R words copies (omega arith) (λ l x. go l R x) h
@@ -60,13 +60,13 @@ wake_more N N' most most' words copies (Stays place trap u) fits go h = omega ar
 
 -- from one condition to another that follows from it
 module _ (k : PlainKernel) (uses : List ℕ) (N N' : OfText) (whole whole' : ℕ) (wholes : whole ≤ whole')
-    (go : (l : ℕ) (R : Text) (words : List ℤ) (copies : List VarCopy) → N l R words copies → N' (l + 0) R words copies)
+    (go : (l : ℕ) (R : RunningText) (words : List ℤ) (copies : List VarCopy) → N l R words copies → N' (l + 0) R words copies)
   where
-    pub rests_more : (R : Text) (words : List ℤ) → Rests k uses N whole R words → Rests k uses N' whole' R words
+    pub rests_more : (R : RunningText) (words : List ℤ) → Rests k uses N whole R words → Rests k uses N' whole' R words
     rests_more R words h =
         λ c. wake_more N N' whole whole' words c (woken k uses words c R) wholes (λ l R'. go l R' words c) (h c)
 
-    move_more : (n n' : ℕ) (R : Text) (words : List ℤ) (m : Move) → n ≤ n' → AfterMove N (Rests k uses N whole R words) n m →
+    move_more : (n n' : ℕ) (R : RunningText) (words : List ℤ) (m : Move) → n ≤ n' → AfterMove N (Rests k uses N whole R words) n m →
         AfterMove N' (Rests k uses N' whole' R words) n' m
     move_more n n' R words Finished fits h = tt
     move_more n n' R words Halts fits h = rests_more R words h
@@ -75,7 +75,7 @@ module _ (k : PlainKernel) (uses : List ℕ) (N N' : OfText) (whole whole' : ℕ
     move_more n n' R words (Traps place trap u) fits h = omega arith
 
 module _ (k : PlainKernel) (uses : List ℕ) where
-  pub within_more : (whole whole' : ℕ) → whole ≤ whole' → (m n n' : ℕ) (R : Text) (words : List ℤ) (copies : List VarCopy) → n ≤ n' →
+  pub within_more : (whole whole' : ℕ) → whole ≤ whole' → (m n n' : ℕ) (R : RunningText) (words : List ℤ) (copies : List VarCopy) → n ≤ n' →
       Within k uses whole m n R words copies → Within k uses whole' m n' R words copies
   within_more whole whole' wholes zero n n' R words copies fits h = tt
   within_more whole whole' wholes (suc m) n n' R words copies fits h =
@@ -83,7 +83,7 @@ module _ (k : PlainKernel) (uses : List ℕ) where
       (λ l R' w c x. within_more whole whole' wholes m l (l + 0) R' w c (omega arith) x) n n' R words
       (text_move k path uses words copies R) fits (h path)
 
-  pub within_fewer : (whole m n : ℕ) (R : Text) (words : List ℤ) (copies : List VarCopy) → Within k uses whole (suc m) n R words copies →
+  pub within_fewer : (whole m n : ℕ) (R : RunningText) (words : List ℤ) (copies : List VarCopy) → Within k uses whole (suc m) n R words copies →
       Within k uses whole m n R words copies
   within_fewer whole zero n R words copies h = tt
   within_fewer whole (suc m) n R words copies h =
@@ -127,11 +127,11 @@ with_wake N (Raises place trap u) go a b n words copies h g fits = omega arith
 -- ---- what follows a text: d units now, d' after a wake, for a thread of so many words
 
 module _ (k : PlainKernel) (uses : List ℕ) (size whole whole' : ℕ) where
-  then_move : (m d d' n : ℕ) (a : After) (R : Text) (words : List ℤ) (copies : List VarCopy) → whole + d' ≤ whole' → length words ≡ size →
+  then_move : (m d d' n : ℕ) (a : After) (R : RunningText) (words : List ℤ) (copies : List VarCopy) → whole + d' ≤ whole' → length words ≡ size →
       Within k uses whole' m d (after_text a) words copies →
-      ((l : ℕ) (S : Text) (w : List ℤ) (c : List VarCopy) → length w ≡ size → Within k uses whole m l S w c →
+      ((l : ℕ) (S : RunningText) (w : List ℤ) (c : List VarCopy) → length w ≡ size → Within k uses whole m l S w c →
       Within k uses whole' m (l + d) (Then S a) w c) →
-      ((l : ℕ) (S : Text) (w : List ℤ) (c : List VarCopy) → length w ≡ size → Within k uses whole m l S w c →
+      ((l : ℕ) (S : RunningText) (w : List ℤ) (c : List VarCopy) → length w ≡ size → Within k uses whole m l S w c →
       Within k uses whole' m (l + d') (Then S (refilled a)) w c) →
       (mv : Move) → Keeps size mv → AfterMove (Within k uses whole m) (Rests k uses (Within k uses whole m) whole R words) n mv →
       AfterMove (Within k uses whole' m) (Rests k uses (Within k uses whole' m) whole' (Then R a) words) (n + d) (move_before a words copies mv)
@@ -150,7 +150,7 @@ module _ (k : PlainKernel) (uses : List ℕ) (size whole whole' : ℕ) where
   follows_fewer m d a h = λ w c e. within_fewer k uses whole' m d (after_text a) w c (h w c e)
 
   pub then_within : (d' : ℕ) → whole + d' ≤ whole' → (m d : ℕ) (a : After) → Follows m d a → Follows m d' (refilled a) →
-      (n : ℕ) (R : Text) (words : List ℤ) (copies : List VarCopy) → length words ≡ size → Within k uses whole m n R words copies →
+      (n : ℕ) (R : RunningText) (words : List ℤ) (copies : List VarCopy) → length words ≡ size → Within k uses whole m n R words copies →
       Within k uses whole' m (n + d) (Then R a) words copies
   then_within d' wholes zero d a next next' n R words copies e h = tt
   then_within d' wholes (suc m) d (Go_on list) next next' n R words copies e h =

@@ -7,8 +7,8 @@ use Rattle.forec_base.specs.declared.Policy.{Policy}
 use Rattle.forec_kernel.specs.declared.shape.VarCopy.{VarCopy}
 use Rattle.forec_kernel.specs.Shapes.{PlainKernel}
 use Rattle.forec_kernel.specs.Values.{Value, copy_of}
-use Rattle.forec_kernel.specs.Texts.{Status, Text, Threads, no_threads, child, is_active, uses_of}
-use Rattle.forec_kernel.specs.Combining.{contains, shares, taking_part, some_marked, Joint, variable_calls, variable_of, combine_of, joined_copy, joined_copies, calls_of, calls_from, calls_at, in_order}
+use Rattle.forec_kernel.specs.Texts.{Status, RunningText, Threads, no_threads, child, is_active, uses_of}
+use Rattle.forec_kernel.specs.Combining.{contains, shares, taking_part, some_marked, Joint, variable_calls, variable_of, combine_of, joined_copy, joined_copies, joint_calls, calls_from, calls_at, calls_in_order}
 use Rattle.thread_code.specs.Machine.{BranchCopy, Total, total_of, settled, shares_of}
 use Rattle.code_gen.proofs.Each.{Each, each_map}
 use Rattle.code_gen.proofs.Columns.{Ascends, not_above, kept, Sized, rest_calls, total_in, total_combined, with_share}
@@ -39,10 +39,10 @@ each_in P (v ∷ vs) h = (h v (ap (λ b. cond b true (contains v vs)) (itself v)
     more w true m = refl
     more w false m = m
 
-pub in_order_same : (g h : ℕ → List Joint) (vs : List ℕ) (n j : ℕ) → ((i : ℕ) → j ≤ i → Each (λ v. calls_from i (g v) ≡ calls_from i (h v)) vs) → in_order j n (map g vs) ≡ in_order j n (map h vs)
+pub in_order_same : (g h : ℕ → List Joint) (vs : List ℕ) (n j : ℕ) → ((i : ℕ) → j ≤ i → Each (λ v. calls_from i (g v) ≡ calls_from i (h v)) vs) → calls_in_order j n (map g vs) ≡ calls_in_order j n (map h vs)
 in_order_same g h vs zero j e = refl
 in_order_same g h vs (suc n) j e =
-    ap (λ l. l ++ in_order (suc j) n (map g vs)) (flat_at j g vs ∙ flat_same (λ v. calls_from j (g v)) (λ v. calls_from j (h v)) vs (e j (omega arith)) ∙ sym (flat_at j h vs))
+    ap (λ l. l ++ calls_in_order (suc j) n (map g vs)) (flat_at j g vs ∙ flat_same (λ v. calls_from j (g v)) (λ v. calls_from j (h v)) vs (e j (omega arith)) ∙ sym (flat_at j h vs))
     ∙ ap (λ l. calls_at j (map h vs) ++ l) (in_order_same g h vs n (suc j) (λ i le. e i (omega (arith, le))))
 
 -- ---- one branch
@@ -167,7 +167,7 @@ branch_ascends k t st copies h = pick (is_active st)
     pick false = tt
 
 -- the first branch's share of a variable
-pub first_share : (k : PlainKernel) (v j t : ℕ) (R : Text) (w : List ℤ) (c : List VarCopy) (st : Status) (rest : Threads) →
+pub first_share : (k : PlainKernel) (v j t : ℕ) (R : RunningText) (w : List ℤ) (c : List VarCopy) (st : Status) (rest : Threads) →
     shares k v j (child t R w c st rest) ≡ with_share (share_in (branch_shares k t st c) v) j (shares k v (suc j) rest)
 first_share k v j t R w c st rest = pick (is_active st)
   where
@@ -242,11 +242,11 @@ module _ (k : PlainKernel) where
   policy v = (variable_of k v).policy
 
   pub calls_are : (cs : Threads) (h : ℕ → ℤ) (uses : List ℕ) (copies : List VarCopy) → Bases h uses copies →
-      calls_of k cs uses copies ≡ map (λ v. rest_calls (joins v) None (taking_part (policy v) (h v) (shares k v 0 cs))) (kept uses copies)
+      joint_calls k cs uses copies ≡ map (λ v. rest_calls (joins v) None (taking_part (policy v) (h v) (shares k v 0 cs))) (kept uses copies)
   calls_are cs h [] copies b = refl
   calls_are cs h (v ∷ uses) [] b = refl
   calls_are cs h (v ∷ uses) (c ∷ copies) b =
-      ap (λ n. variable_calls (joins v) (taking_part (policy v) n (shares k v 0 cs)) ∷ calls_of k cs uses copies) (sym b.0)
+      ap (λ n. variable_calls (joins v) (taking_part (policy v) n (shares k v 0 cs)) ∷ joint_calls k cs uses copies) (sym b.0)
       ∙ ap (λ l. variable_calls (joins v) (taking_part (policy v) (h v) (shares k v 0 cs)) ∷ l) (calls_are cs h uses copies b.1)
 
   abbrev pub final_total : Threads → (ℕ → ℤ) → ℕ → Total

@@ -6,12 +6,12 @@ use Rattle.std.proofs.lemmas.Option.{get_or_from_slice_get}
 use Rattle.forec_kernel.specs.declared.terms.Spot.TheVariants as spot
 use Rattle.forec_kernel.specs.Terms.{Expr, Num, Local, LocalAt, Var, SharedAt, TableAt, Un, Bin, And, Or, Choose, Call, Exprs, no_exprs, more_exprs, Stmt, Nop, Set, SetAt, PutAt, Clear, Seq, If, While, Pause, Par, Enter, Return, Stmts, no_stmts, more_stmts}
 use Rattle.forec_kernel.specs.Shapes.{PlainKernel, PlainThread}
-use Rattle.forec_kernel.specs.WellFormed.{Scope, FineStmt, FineStmts, calls_of, calls_in, stmt_calls, stmts_calls, function_body, WellFormed}
+use Rattle.forec_kernel.specs.WellFormed.{TermScope, FineStmt, FineStmts, calls_of, calls_in, stmt_calls, stmts_calls, function_body, WellFormed}
 use Rattle.forec_kernel.specs.Values.{function_words}
 use Rattle.thread_code.specs.declared.instruction.Instruction.{Instruction}
 use Rattle.thread_code.specs.declared.instruction.Instruction.TheVariants as instruction
 use Rattle.thread_code.specs.Plain.{PlainBlock}
-use Rattle.thread_code.specs.Valid.{called, steps_of, deep_within}
+use Rattle.thread_code.specs.Valid.{called_functions, steps_of, deep_within}
 use Rattle.code_gen.specs.Expressions.{expression_code, expressions_code}
 use Rattle.code_gen.specs.Statements.{Around, Outside, loops, inner, fill_code, turn_code, statement_code, statements_code}
 use Rattle.code_gen.specs.Blocks.{function_block, kernel_code}
@@ -21,7 +21,7 @@ use Rattle.code_gen.proofs.Deep.{deep, statement_named}
 
 -- each called function is allowed
 abbrev Allows : (ℕ → Type 0) → List Instruction → Type 0
-Allows P is = Each P (called is)
+Allows P is = Each P (called_functions is)
 
 allows_join : (P : ℕ → Type 0) (is js : List Instruction) → Allows P is → Allows P js → Allows P (is ++ js)
 allows_join P [] js h g = g
@@ -68,7 +68,7 @@ module _ (P : ℕ → Type 0) where
   turn_calls None w place = tt
   turn_calls (Some n) w place = tt
 
-  module _ (ts : List PlainThread) (z : Scope) where
+  module _ (ts : List PlainThread) (z : TermScope) where
     mutual
       -- of a function's statements
       statement_calls : (x : Stmt) (a : Around) (p : ℕ) → FineStmt true z x → Each P (stmt_calls x) → Allows P (statement_code ts a p x)
@@ -123,10 +123,10 @@ module _ (k : PlainKernel) (fine : WellFormed k) where
   within (suc n) f lt h =
       let function = fine.each_function f lt in
       let body = function_body k f in
-      let z : Scope = record { kernel = k; words = function_words k.shape.functions f; uses = [] } in
+      let z : TermScope = record { kernel = k; words = function_words k.shape.functions f; uses = [] } in
       let named = statement_named z true body function.body in
       let calls = each_test (deep k n) (stmt_calls body) h in
       let good = each_map (λ g. (g < length k.functions) × (deep k n g ≡ true)) (λ g. deep_within (kernel_code k).functions n g ≡ true) (λ g p. within n g p.0 p.1) (stmt_calls body) (both _ _ (stmt_calls body) named calls) in
       let code = statement_calls (λ g. deep_within (kernel_code k).functions n g ≡ true) k.shape.threads z body Outside 0 function.body good in
       let all = allows_join (λ g. deep_within (kernel_code k).functions n g ≡ true) (statement_code k.shape.threads Outside 0 body) (instruction.Quiet (pos 0) ∷ instruction.Return ∷ []) code tt in
-      ap (λ is. list_all (deep_within (kernel_code k).functions n) (called is)) (steps_are f lt) ∙ test_each (deep_within (kernel_code k).functions n) (called (function_block k f body).steps) all
+      ap (λ is. list_all (deep_within (kernel_code k).functions n) (called_functions is)) (steps_are f lt) ∙ test_each (deep_within (kernel_code k).functions n) (called_functions (function_block k f body).steps) all

@@ -6,7 +6,7 @@ use Rattle.forec_kernel.specs.declared.terms.Spot.TheVariants as spot
 use Rattle.forec_kernel.specs.Terms.{Expr, Num, Local, LocalAt, Var, SharedAt, TableAt, Un, Bin, And, Or, Choose, Call, Exprs, no_exprs, more_exprs, Stmt, Nop, Set, SetAt, PutAt, Clear, Seq, If, While, Pause, Par, Enter, Return, Stmts, no_stmts, more_stmts}
 use Rattle.forec_kernel.specs.Shapes.{PlainKernel}
 use Rattle.forec_kernel.specs.Values.{call_within, fresh_words, function_words}
-use Rattle.forec_kernel.specs.WellFormed.{Scope, FineExpr, FineExprs, FineStmt, FineStmts, calls_of, calls_in, stmt_calls, stmts_calls, function_body, function_params, WellFormed}
+use Rattle.forec_kernel.specs.WellFormed.{TermScope, FineExpr, FineExprs, FineStmt, FineStmts, calls_of, calls_in, stmt_calls, stmts_calls, function_body, function_params, WellFormed}
 use Rattle.thread_code.specs.declared.instruction.Instruction.TheVariants as instruction
 use Rattle.thread_code.specs.Plain.{PlainBlock}
 use Rattle.thread_code.specs.Machine as machine
@@ -21,7 +21,7 @@ use Rattle.code_gen.proofs.Fits.{FitsCall, Fits, AllFit, Own_expression, BodyFit
 use Rattle.code_gen.proofs.Functions.{function_does}
 
 module _ (k : PlainKernel) (same : length k.functions ≡ length k.shape.functions) (n : ℕ) (words : ℕ) (uses : List ℕ) where
-  abbrev z : Scope
+  abbrev z : TermScope
   z = record { kernel = k; words = words; uses = uses }
 
   abbrev Ok : ℕ → Type 0
@@ -57,7 +57,7 @@ module _ (k : PlainKernel) (same : length k.functions ≡ length k.shape.functio
     all_fit (more_exprs e rest) h d = (fits e h.0 (each_front Ok (calls_of e) (calls_in rest) d), all_fit rest h.1 (each_back Ok (calls_of e) (calls_in rest) d))
 
 module _ (k : PlainKernel) (same : length k.functions ≡ length k.shape.functions) (n : ℕ) (words : ℕ) where
-  abbrev z0 : Scope
+  abbrev z0 : TermScope
   z0 = record { kernel = k; words = words; uses = [] }
 
   abbrev Ok0 : ℕ → Type 0

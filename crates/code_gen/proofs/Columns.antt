@@ -9,7 +9,7 @@ use Rattle.forec_kernel.specs.Values.{Value, Gives, Raises, copy_of}
 use Rattle.forec_kernel.specs.Texts.{Threads, no_threads, child, is_active, uses_of}
 use Rattle.forec_kernel.specs.WellFormed.{ascends}
 use Rattle.forec_kernel.specs.Combining as combining
-use Rattle.forec_kernel.specs.Combining.{contains, shares, takes_part, taking_part, some_marked, Joint, fold_calls, last_value, variable_calls, combined_value, variable_of, combine_of, part_of, joined_copy, joined_copies, calls_of, calls_from, calls_at, count_threads, in_order, Cost, Costs, Fails, more_cost, cost_of, join_cost}
+use Rattle.forec_kernel.specs.Combining.{contains, shares, takes_part, taking_part, some_marked, Joint, fold_calls, last_value, variable_calls, combined_value, variable_of, combine_of, part_of, joined_copy, joined_copies, joint_calls, calls_from, calls_at, count_threads, calls_in_order, Cost, Costs, Fails, more_cost, cost_of, join_cost}
 use Rattle.thread_code.specs.Machine.{Total, total_of, put_total, no_total, no_totals}
 use Rattle.code_gen.proofs.Each.{Each}
 

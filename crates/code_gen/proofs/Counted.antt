@@ -8,7 +8,7 @@ use Rattle.forec_kernel.specs.Shapes.{PlainThread}
 use Rattle.thread_code.specs.declared.instruction.Instruction.TheVariants as instruction
 use Rattle.code_gen.specs.Expressions.{expression_code, expressions_code}
 use Rattle.code_gen.specs.Statements.{Around, Outside, InLoop, InAbort, loops, weaks, checks, guard, prologue, fork_code, if_code, inner, fill_code, turn_code, loop_code, enter_code, par_number, arguments_code, statement_code, statements_code}
-use Rattle.code_gen.specs.Sizes.{expression_length, expressions_length, arguments_length, one_if, counted, entry_length, statement_length, statements_length}
+use Rattle.code_gen.specs.Sizes.{expression_length, expressions_length, arguments_length, count_if, counted_loops, entry_length, statement_length, statements_length}
 use Rattle.code_gen.proofs.Lengths.{loop_length, if_length, fork_length}
 
 -- the size of an abort's body is put where a 0 was
@@ -18,7 +18,7 @@ put_size old pushed all rest n x h e f =
     let is : all ≡ old ++ 0 ∷ rest = f ∙ ap (λ l. l ++ rest) e ∙ flat in
     ap (λ l. slice_set l n x) is ∙ ap (λ i. slice_set (old ++ 0 ∷ rest) i x) h ∙ set-append_seam old 0 rest x
 
-pub one_byte : (b : Bool) → bool_byte b ≡ one_if b
+pub one_byte : (b : Bool) → bool_byte b ≡ count_if b
 one_byte true = refl
 one_byte false = refl
 
@@ -78,16 +78,16 @@ pub record Surrounds (a : Around) (c w : ℕ) : Type 0 where
 pub outside_none : Surrounds Outside 0 0
 outside_none = record { before = refl; behind = λ p. refl }
 
-in_loop : (n : Option ℕ) (a : Around) (c w : ℕ) → Surrounds a c w → Surrounds (inner n a) c (w + counted n)
+in_loop : (n : Option ℕ) (a : Around) (c w : ℕ) → Surrounds a c w → Surrounds (inner n a) c (w + counted_loops n)
 in_loop None a c w s = record { before = s.before; behind = λ p. let h = s.behind p in omega arith }
 in_loop (Some n) a c w s =
     record { before = s.before; behind = λ p. let h = s.behind p in omega (arith, h, length-append (prologue p a) (instruction.Fill (loops a) n ∷ [])) }
 
-before_abort : (weak : Bool) (e : Expr) (x : ℕ) (a : Around) (c : ℕ) → length (checks a) ≡ c → length (checks (InAbort weak e x a)) ≡ c + one_if weak
+before_abort : (weak : Bool) (e : Expr) (x : ℕ) (a : Around) (c : ℕ) → length (checks a) ≡ c → length (checks (InAbort weak e x a)) ≡ c + count_if weak
 before_abort false e x a c h = omega (arith, h)
 before_abort true e x a c h = omega (arith, h)
 
-in_abort : (weak : Bool) (e : Expr) (x : ℕ) (a : Around) (c w : ℕ) → Surrounds a c w → Surrounds (InAbort weak e x a) (c + one_if weak) (w + (expression_length e + 1))
+in_abort : (weak : Bool) (e : Expr) (x : ℕ) (a : Around) (c w : ℕ) → Surrounds a c w → Surrounds (InAbort weak e x a) (c + count_if weak) (w + (expression_length e + 1))
 in_abort weak e x a c w s =
     record {
       before = before_abort weak e x a c s.before;
@@ -98,11 +98,11 @@ in_abort weak e x a c w s =
           omega (arith, h, expression_is (p + length outer) e, length-append outer (test ++ guard weak (weaks a) x ∷ []), length-append test (guard weak (weaks a) x ∷ []));
     }
 
-fill_is : (n : Option ℕ) (i : ℕ) → length (fill_code n i) ≡ counted n
+fill_is : (n : Option ℕ) (i : ℕ) → length (fill_code n i) ≡ counted_loops n
 fill_is None i = refl
 fill_is (Some n) i = refl
 
-turn_is : (n : Option ℕ) (i : ℕ) (place : Rattle.forec_base.specs.declared.Place.Place) → length (turn_code n i place) ≡ counted n
+turn_is : (n : Option ℕ) (i : ℕ) (place : Rattle.forec_base.specs.declared.Place.Place) → length (turn_code n i place) ≡ counted_loops n
 turn_is None i place = refl
 turn_is (Some n) i place = refl
 
@@ -142,7 +142,7 @@ module _ (ts : List PlainThread) where
           fill_is n (loops a),
           turn_is n (loops a) place,
           expression_is start t,
-          statement_is k (inner n a) b c (w + counted n) (in_loop n a c w h),
+          statement_is k (inner n a) b c (w + counted_loops n) (in_loop n a c w h),
           loop_length start test turn (λ i. statement_code ts (inner n a) i k),
           length-append fill (loop_code start test turn (λ i. statement_code ts (inner n a) i k)),
         )
@@ -162,7 +162,7 @@ module _ (ts : List PlainThread) where
         omega (
           arith,
           enter_is weak immediate (weaks a) x p t,
-          statement_is k (InAbort weak t x a) q (c + one_if weak) (w + (expression_length t + 1)) (in_abort weak t x a c w h),
+          statement_is k (InAbort weak t x a) q (c + count_if weak) (w + (expression_length t + 1)) (in_abort weak t x a c w h),
           length-append entry (statement_code ts (InAbort weak t x a) q k),
         )
     statement_is (Return e) a p c w h = omega (arith, expression_is p e, length-append (expression_code p e) (instruction.Return ∷ []))

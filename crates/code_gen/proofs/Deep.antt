@@ -8,7 +8,7 @@ use Rattle.std.proofs.lemmas.Map.Keys.{IsDistinct-cons}
 use Rattle.forec_kernel.specs.Terms.{Expr, Num, Local, LocalAt, Var, SharedAt, TableAt, Un, Bin, And, Or, Choose, Call, Exprs, no_exprs, more_exprs, Branch, Stmt, Nop, Set, SetAt, PutAt, Clear, Seq, If, While, Pause, Par, Enter, Return, Stmts, no_stmts, more_stmts}
 use Rattle.forec_kernel.specs.Shapes.{PlainKernel}
 use Rattle.forec_kernel.specs.Combining.{contains}
-use Rattle.forec_kernel.specs.WellFormed.{Scope, FineExpr, FineExprs, FineStmt, FineStmts, FineBranches, calls_of, calls_in, branch_calls, stmt_calls, stmts_calls, function_body, Ranked}
+use Rattle.forec_kernel.specs.WellFormed.{TermScope, FineExpr, FineExprs, FineStmt, FineStmts, FineBranches, calls_of, calls_in, branch_calls, stmt_calls, stmts_calls, function_body, Ranked}
 use Rattle.code_gen.proofs.Each.{Each, each_join, each_map, test_each}
 
 -- a chain of calls that begins with function f has at most n functions
@@ -17,7 +17,7 @@ deep k zero f = false
 deep k (suc n) f = list_all (deep k n) (stmt_calls (function_body k f))
 
 -- ---- each function that a term calls is one of the kernel's
-module _ (z : Scope) where
+module _ (z : TermScope) where
   abbrev Is : ℕ → Type 0
   Is f = f < length z.kernel.functions
 

@@ -10,7 +10,7 @@ use Rattle.thread_code.specs.declared.instruction.Instruction.{Instruction}
 use Rattle.thread_code.specs.declared.instruction.Instruction.TheVariants as instruction
 use Rattle.thread_code.specs.Plain.{PlainCode}
 use Rattle.thread_code.specs.Valid.{function_arguments}
-use Rattle.thread_code.specs.Machine.{Frame, Caller, Own, Machine, On, act, with_arguments, unless_none, entered, uses_of}
+use Rattle.thread_code.specs.Machine.{Frame, Caller, Own, Machine, On, act, with_arguments, unless_none, entered, code_uses}
 use Rattle.code_gen.specs.Expressions.{expression_code, expressions_code}
 use Rattle.code_gen.proofs.Fits.{FitsCall, Fits, AllFit, CallsRun}
 use Rattle.code_gen.proofs.Stretch.{HasAt, has_front, has_back, SameCount, point, Comes, stays, comes_on, comes_at, one, Yields, YieldsAll, yields_from, yields_to, yields_after, yields_value, yields_then, yields_all_then, yields_both}
@@ -53,10 +53,10 @@ module _ (c : PlainCode) (t : ℕ) (call : ℕ → List ℤ → Value) (ok : ℕ
   top_at p st n u = On (point s p (n ∷ st) words counters) fs o u
 
   abbrev pub seen : Expr → Value
-  seen = val (record { tables = c.shape.tables; call = call }) (record { words = words; uses = uses_of c t; copies = o.copies })
+  seen = val (record { tables = c.shape.tables; call = call }) (record { words = words; uses = code_uses c t; copies = o.copies })
 
   abbrev pub all_seen : Exprs → Values
-  all_seen = vals (record { tables = c.shape.tables; call = call }) (record { words = words; uses = uses_of c t; copies = o.copies })
+  all_seen = vals (record { tables = c.shape.tables; call = call }) (record { words = words; uses = code_uses c t; copies = o.copies })
 
   ends_at : (m : Machine) (u p q : ℕ) (st : List ℤ) (r : Value) → p ≡ q → Yields c t m u (top_at p st) r → Yields c t m u (top_at q st) r
   ends_at m u p q st r h g = subst (λ n. Yields c t m u (top_at n st) r) h g
@@ -119,7 +119,7 @@ module _ (c : PlainCode) (t : ℕ) (call : ℕ → List ℤ → Value) (ok : ℕ
         let ci = expression_code p i in
         let q = p + length ci in
         let len : q + 1 ≡ p + length (ci ++ instruction.GetAt v n place ∷ []) = omega (arith, length-append ci (instruction.GetAt v n place ∷ [])) in
-        let get : ℕ → ℤ = λ j. (copy_of (uses_of c t) o.copies (v + j)).value in
+        let get : ℕ → ℤ = λ j. (copy_of (code_uses c t) o.copies (v + j)).value in
         yields_then c t (here p st u) u (top_at q st) (top_at _ st) (seen i) (λ k. at_index (index_in n k) get place)
         (expression_runs i p st u fit (has_front s p ci _ has))
         (λ k w. element_at (index_in n k) get place q _ st (top_at q st k w) w len
@@ -214,7 +214,7 @@ module _ (c : PlainCode) (t : ℕ) (call : ℕ → List ℤ → Value) (ok : ℕ
         let q = p + length ca in
         let len : q + 1 ≡ p + length (ca ++ instruction.Call f ∷ []) = omega (arith, length-append ca (instruction.Call f ∷ [])) in
         yields_all_then c t (count_exprs args) (here p st u) u (λ vs w. here q (push_all vs st) w) (top_at _ st) (all_seen args) (λ vs. more_units 1 (call f vs))
-        (same_count (record { tables = c.shape.tables; call = call }) (record { words = words; uses = uses_of c t; copies = o.copies }) args)
+        (same_count (record { tables = c.shape.tables; call = call }) (record { words = words; uses = code_uses c t; copies = o.copies }) args)
         (expressions_run args p st u fit.1 (has_front s p ca _ has))
         (λ vs w n. called f (count_exprs args) q _ vs st w fit.0 n len (has_back s p ca _ has).0)
 

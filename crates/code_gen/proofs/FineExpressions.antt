@@ -8,7 +8,7 @@ use Rattle.forec_kernel.specs.WellFormed.{FineExpr, FineExprs}
 use Rattle.thread_code.specs.declared.instruction.Instruction.{Instruction}
 use Rattle.thread_code.specs.declared.instruction.Instruction.TheVariants as instruction
 use Rattle.thread_code.specs.Plain.{PlainBlock}
-use Rattle.thread_code.specs.Valid.{Scope, Leads, IsFine, uses_for, costs}
+use Rattle.thread_code.specs.Valid.{BlockScope, HasDepth, IsFine, uses_for, costs}
 use Rattle.thread_code.proofs.AllFine.{AllFine, fine_join}
 use Rattle.code_gen.specs.Expressions.{expression_code, expressions_code}
 use Rattle.code_gen.specs.Blocks.{function_block, kernel_code}
@@ -37,12 +37,12 @@ first_costs s (Call f no_exprs) p h = ap costs h.0
 first_costs s (Call f (more_exprs x rest)) p h = first_costs s x p (has_front s p (expression_code p x) _ (has_front s p (expressions_code p (more_exprs x rest)) _ h))
 
 module _ (depths : List ℕ) where
-  pub lead_to : (p q d e : ℕ) → p ≡ q → d ≡ e → Leads depths p d → Leads depths q e
-  lead_to p q d e hp hd h = subst (λ n. Leads depths n e) hp (subst (λ n. Leads depths p n) hd h)
+  pub lead_to : (p q d e : ℕ) → p ≡ q → d ≡ e → HasDepth depths p d → HasDepth depths q e
+  lead_to p q d e hp hd h = subst (λ n. HasDepth depths n e) hp (subst (λ n. HasDepth depths p n) hd h)
 
   -- the first depth
   mutual
-    pub starts : (x : Expr) (d p : ℕ) → HasAt depths p (expression_depths d x) → Leads depths p d
+    pub starts : (x : Expr) (d p : ℕ) → HasAt depths p (expression_depths d x) → HasDepth depths p d
     starts (Num n) d p h = h.0
     starts (Local x) d p h = h.0
     starts (LocalAt x n i place) d p h = starts i d p (has_front depths p (expression_depths d i) _ h)
@@ -57,15 +57,15 @@ module _ (depths : List ℕ) where
     starts (Call f args) d p h = all_starts args d p _ h
 
     -- of several expressions and a depth after them
-    pub all_starts : (xs : Exprs) (d p : ℕ) (rest : List ℕ) → HasAt depths p (expressions_depths d xs ++ (d + count_exprs xs) ∷ rest) → Leads depths p d
+    pub all_starts : (xs : Exprs) (d p : ℕ) (rest : List ℕ) → HasAt depths p (expressions_depths d xs ++ (d + count_exprs xs) ∷ rest) → HasDepth depths p d
     all_starts no_exprs d p rest h = let e : d + 0 ≡ d = omega arith in h.0 ∙ ap Some e
     all_starts (more_exprs x xs) d p rest h = starts x d p (has_front depths p (expression_depths d x) (expressions_depths (d + 1) xs) (has_front depths p (expressions_depths d (more_exprs x xs)) _ h))
 
 module _ (k : PlainKernel) (thread : Option ℕ) (b : PlainBlock) (depths : List ℕ) where
-  abbrev pub scope : Scope
+  abbrev pub scope : BlockScope
   scope = record { code = kernel_code k; thread = thread }
 
-  abbrev pub z : kernel.Scope
+  abbrev pub z : kernel.TermScope
   z = record { kernel = k; words = b.words; uses = uses_for (kernel_code k) thread }
 
   abbrev pub Fine : ℕ → List Instruction → List ℕ → Type 0
@@ -76,8 +76,8 @@ module _ (k : PlainKernel) (thread : Option ℕ) (b : PlainBlock) (depths : List
   then_one p c i ds d h g = fine_join scope b depths p c (i ∷ []) ds (d ∷ []) h (g, tt)
 
   -- an index in front of an instruction
-  indexed : (x : Expr) (i : Instruction) (d p : ℕ) → HasAt depths p (expression_depths d x ++ (d + 1) ∷ []) → (HasAt depths p (expression_depths d x) → Leads depths (p + length (expression_code p x)) (d + 1) → Fine p (expression_code p x) (expression_depths d x)) →
-      Leads depths (p + length (expression_code p x ++ i ∷ [])) (d + 1) → ((q : ℕ) → Leads depths (q + 1) (d + 1) → IsFine scope b depths q (d + 1) i) → Fine p (expression_code p x ++ i ∷ []) (expression_depths d x ++ (d + 1) ∷ [])
+  indexed : (x : Expr) (i : Instruction) (d p : ℕ) → HasAt depths p (expression_depths d x ++ (d + 1) ∷ []) → (HasAt depths p (expression_depths d x) → HasDepth depths (p + length (expression_code p x)) (d + 1) → Fine p (expression_code p x) (expression_depths d x)) →
+      HasDepth depths (p + length (expression_code p x ++ i ∷ [])) (d + 1) → ((q : ℕ) → HasDepth depths (q + 1) (d + 1) → IsFine scope b depths q (d + 1) i) → Fine p (expression_code p x ++ i ∷ []) (expression_depths d x ++ (d + 1) ∷ [])
   indexed x i d p h ih end fine =
       let cx = expression_code p x in
       let q = p + length cx in
@@ -86,11 +86,11 @@ module _ (k : PlainKernel) (thread : Option ℕ) (b : PlainBlock) (depths : List
       then_one p cx i (expression_depths d x) (d + 1) (ih (has_front depths p (expression_depths d x) _ h) here.0) (fine q (lead_to depths _ _ _ _ len refl end))
 
   -- the right side of `and` and `or`
-  both_sides : (x y : Expr) (jump : ℕ → Instruction) (last : Instruction) (d p : ℕ) → ((q to : ℕ) → Leads depths (q + 1) d → Leads depths to d → IsFine scope b depths q (d + 1) (jump to)) → ((q : ℕ) → Leads depths (q + 1) (d + 1) → IsFine scope b depths q d last) →
-      (HasAt depths p (expression_depths d x) → Leads depths (p + length (expression_code p x)) (d + 1) → Fine p (expression_code p x) (expression_depths d x)) →
-      ((q : ℕ) → HasAt depths q (expression_depths d y) → Leads depths (q + length (expression_code q y)) (d + 1) → Fine q (expression_code q y) (expression_depths d y)) →
+  both_sides : (x y : Expr) (jump : ℕ → Instruction) (last : Instruction) (d p : ℕ) → ((q to : ℕ) → HasDepth depths (q + 1) d → HasDepth depths to d → IsFine scope b depths q (d + 1) (jump to)) → ((q : ℕ) → HasDepth depths (q + 1) (d + 1) → IsFine scope b depths q d last) →
+      (HasAt depths p (expression_depths d x) → HasDepth depths (p + length (expression_code p x)) (d + 1) → Fine p (expression_code p x) (expression_depths d x)) →
+      ((q : ℕ) → HasAt depths q (expression_depths d y) → HasDepth depths (q + length (expression_code q y)) (d + 1) → Fine q (expression_code q y) (expression_depths d y)) →
       HasAt depths p (expression_depths d x ++ ((d + 1) ∷ (expression_depths d y ++ (d + 1) ∷ (d + 1) ∷ d ∷ []))) →
-      (q r : ℕ) → q ≡ p + length (expression_code p x) + 1 → r ≡ q + length (expression_code q y) → Leads depths (r + 1 + 1 + 1) (d + 1) →
+      (q r : ℕ) → q ≡ p + length (expression_code p x) + 1 → r ≡ q + length (expression_code q y) → HasDepth depths (r + 1 + 1 + 1) (d + 1) →
       Fine p (expression_code p x ++ (jump (r + 1 + 1) ∷ (expression_code q y ++ instruction.Truth ∷ instruction.Jump (r + 1 + 1 + 1) ∷ last ∷ []))) (expression_depths d x ++ ((d + 1) ∷ (expression_depths d y ++ (d + 1) ∷ (d + 1) ∷ d ∷ [])))
   both_sides x y jump last d p fine_jump fine_last hx hy h q r eq er end =
       let cx = expression_code p x in
@@ -113,7 +113,7 @@ module _ (k : PlainKernel) (thread : Option ℕ) (b : PlainBlock) (depths : List
       )
 
   mutual
-    pub expression_fine : (x : Expr) (d p : ℕ) → FineExpr z x → HasAt depths p (expression_depths d x) → Leads depths (p + length (expression_code p x)) (d + 1) → Fine p (expression_code p x) (expression_depths d x)
+    pub expression_fine : (x : Expr) (d p : ℕ) → FineExpr z x → HasAt depths p (expression_depths d x) → HasDepth depths (p + length (expression_code p x)) (d + 1) → Fine p (expression_code p x) (expression_depths d x)
     expression_fine (Num n) d p ok h end = (end, tt)
     expression_fine (Local x) d p ok h end = ((ok, end), tt)
     expression_fine (LocalAt x n i place) d p ok h end =
@@ -172,7 +172,7 @@ module _ (k : PlainKernel) (thread : Option ℕ) (b : PlainBlock) (depths : List
         let h2 = back_at depths q dx ((d + 1) ∷ dy) (length cx) (same_length x d q) h1.1 in
         let len : p + length (expression_code p (Choose t x y)) ≡ r + length cy = omega (arith, length-append ct (instruction.Zero r ∷ (cx ++ jump ∷ cy)), length-append cx (jump ∷ cy)) in
         let less : d ≡ d + 1 - 1 = omega arith in
-        let end' : Leads depths (r + length cy) (d + 1) = lead_to depths _ _ _ _ len refl end in
+        let end' : HasDepth depths (r + length cy) (d + 1) = lead_to depths _ _ _ _ len refl end in
         fine_join scope b depths p ct (instruction.Zero r ∷ (cx ++ jump ∷ cy)) dt ((d + 1) ∷ (dx ++ (d + 1) ∷ dy)) (expression_fine t d p ok.0 (has_front depths p dt _ h) h1.0) (
           (omega arith, lead_to depths _ _ _ _ refl less (starts depths x d q (has_front depths q dx _ h1.1)), lead_to depths _ _ _ _ refl less (starts depths y d r h2.1)),
           fine_join scope b depths q cx (jump ∷ cy) dx ((d + 1) ∷ dy) (expression_fine x d q ok.1 (has_front depths q dx _ h1.1) h2.0)
@@ -191,7 +191,7 @@ module _ (k : PlainKernel) (thread : Option ℕ) (b : PlainBlock) (depths : List
         let less : d + 1 ≡ d + n - kernel.function_params k f + 1 = omega (arith, arity) in
         then_one p ca i ds (d + n) (expressions_fine args d p ok.2 (has_front depths p ds _ h) h1.0) (named, omega (arith, arity), lead_to depths _ _ _ _ len less end)
 
-    pub expressions_fine : (xs : Exprs) (d p : ℕ) → FineExprs z xs → HasAt depths p (expressions_depths d xs) → Leads depths (p + length (expressions_code p xs)) (d + count_exprs xs) → Fine p (expressions_code p xs) (expressions_depths d xs)
+    pub expressions_fine : (xs : Exprs) (d p : ℕ) → FineExprs z xs → HasAt depths p (expressions_depths d xs) → HasDepth depths (p + length (expressions_code p xs)) (d + count_exprs xs) → Fine p (expressions_code p xs) (expressions_depths d xs)
     expressions_fine no_exprs d p ok h end = tt
     expressions_fine (more_exprs x rest) d p ok h end =
         let cx = expression_code p x in
@@ -206,6 +206,6 @@ module _ (k : PlainKernel) (thread : Option ℕ) (b : PlainBlock) (depths : List
         fine_join scope b depths p cx cs dx ds (expression_fine x d p ok.0 (has_front depths p dx ds h) (start_or_end rest (d + 1) q h1 end'))
         (expressions_fine rest (d + 1) q ok.1 h1 end')
       where
-        start_or_end : (xs : Exprs) (d q : ℕ) → HasAt depths q (expressions_depths d xs) → Leads depths (q + length (expressions_code q xs)) (d + count_exprs xs) → Leads depths q d
+        start_or_end : (xs : Exprs) (d q : ℕ) → HasAt depths q (expressions_depths d xs) → HasDepth depths (q + length (expressions_code q xs)) (d + count_exprs xs) → HasDepth depths q d
         start_or_end no_exprs d q h e = let n : q + 0 ≡ q = omega arith in let m : d + 0 ≡ d = omega arith in lead_to depths _ _ _ _ n m e
         start_or_end (more_exprs y ys) d q h e = starts depths y d q (has_front depths q (expression_depths d y) _ h)

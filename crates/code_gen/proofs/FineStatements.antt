@@ -11,11 +11,11 @@ use Rattle.forec_kernel.specs.WellFormed.{FineExpr, FineExprs, FineStmt, FineStm
 use Rattle.thread_code.specs.declared.instruction.Instruction.{Instruction}
 use Rattle.thread_code.specs.declared.instruction.Instruction.TheVariants as instruction
 use Rattle.thread_code.specs.Plain.{PlainBlock}
-use Rattle.thread_code.specs.Valid.{Leads, IsFine, IsParOf, branches_in, arguments_of}
+use Rattle.thread_code.specs.Valid.{HasDepth, IsFine, IsParOf, branches_in, arguments_of}
 use Rattle.thread_code.proofs.AllFine.{fine_join}
 use Rattle.code_gen.specs.Expressions.{expression_code, expressions_code}
 use Rattle.code_gen.specs.Statements.{Around, Outside, InLoop, InAbort, loops, weaks, checks, guard, prologue, pause_code, fork_code, set_code, inner, fill_code, turn_code, loop_code, enter_code, par_number, arguments_code, statement_code, statements_code}
-use Rattle.code_gen.specs.Blocks.{counted, counters_in, counters_of, flagged, flags_in, flags_of}
+use Rattle.code_gen.specs.Blocks.{loop_nesting, counters_in, counters_of, flagged, flags_in, flags_of}
 use Rattle.code_gen.proofs.Lengths.{loop_length, if_length, enter_length, fork_length, alike_self, alike_length}
 use Rattle.code_gen.proofs.Stretch.{HasAt, has_front, has_back}
 use Rattle.code_gen.proofs.Depths.{expression_depths, expressions_depths, arguments_depths, count_all, flag_depths, checks_depths, prologue_depths, turn_depths, fill_depths, enter_depths, pause_depths, fork_depths, statement_depths, statements_depths, same_length, same_lengths, arguments_length, checks_length, checks_inner, prologue_inner, prologue_length, fill_length, turn_length, enter_depths_length, statement_length, statements_length}
@@ -120,9 +120,9 @@ fill_first None = tt
 fill_first (Some n) = refl
 
 -- where a stretch begins the depth is 0, if it is after it
-pub lead_first : (depths : List ℕ) (p n : ℕ) (ds : List ℕ) → First ds → length ds ≡ n → HasAt depths p ds → Leads depths (p + n) 0 → Leads depths p 0
-lead_first depths p n [] f e h g = let z : p + n ≡ p = omega (arith, e) in subst (λ i. Leads depths i 0) z g
-lead_first depths p n (d ∷ ds) f e h g = subst (Leads depths p) f h.0
+pub lead_first : (depths : List ℕ) (p n : ℕ) (ds : List ℕ) → First ds → length ds ≡ n → HasAt depths p ds → HasDepth depths (p + n) 0 → HasDepth depths p 0
+lead_first depths p n [] f e h g = let z : p + n ≡ p = omega (arith, e) in subst (λ i. HasDepth depths i 0) z g
+lead_first depths p n (d ∷ ds) f e h g = subst (HasDepth depths p) f h.0
 
 -- ---- what a block is of
 
@@ -157,7 +157,7 @@ module _ (k : PlainKernel) (thread : Option ℕ) (b : PlainBlock) (depths : List
   abbrev pub Encloses : ℕ → Around → Type 0
   Encloses e Outside = Unit {0}
   Encloses e (InLoop n a) = Encloses e a
-  Encloses e (InAbort weak t x a) = IsSome thread × FineExpr (z k thread b depths) t × (e ≤ x) × Leads depths x 0 × Encloses e a
+  Encloses e (InAbort weak t x a) = IsSome thread × FineExpr (z k thread b depths) t × (e ≤ x) × HasDepth depths x 0 × Encloses e a
 
   enclosed : (a : Around) (d e : ℕ) → d ≤ e → Encloses e a → Encloses d a
   enclosed Outside d e le h = tt
@@ -168,12 +168,12 @@ module _ (k : PlainKernel) (thread : Option ℕ) (b : PlainBlock) (depths : List
   then_one : (p : ℕ) (c : List Instruction) (i : Instruction) (ds : List ℕ) (d : ℕ) → Fine k thread b depths p c ds → Fine k thread b depths (p + length c) (i ∷ []) (d ∷ []) → Fine k thread b depths p (c ++ i ∷ []) (ds ++ d ∷ [])
   then_one p c i ds d h g = fine_join (scope k thread b depths) b depths p c (i ∷ []) ds (d ∷ []) h g
 
-  lead : (p q d e : ℕ) → p ≡ q → d ≡ e → Leads depths p d → Leads depths q e
+  lead : (p q d e : ℕ) → p ≡ q → d ≡ e → HasDepth depths p d → HasDepth depths q e
   lead p q d e hp hd h = lead_to depths p q d e hp hd h
 
   -- ---- pauses
 
-  checks_fine : (a : Around) (p e : ℕ) → Encloses e a → p + length (checks a) ≤ e → weaks a ≤ b.flags → HasAt depths p (checks_depths a) → Leads depths (p + length (checks a)) 0 → Fine k thread b depths p (checks a) (checks_depths a)
+  checks_fine : (a : Around) (p e : ℕ) → Encloses e a → p + length (checks a) ≤ e → weaks a ≤ b.flags → HasAt depths p (checks_depths a) → HasDepth depths (p + length (checks a)) 0 → Fine k thread b depths p (checks a) (checks_depths a)
   checks_fine Outside p e h le fl has end = tt
   checks_fine (InLoop n a) p e h le fl has end = checks_fine a p e h le fl has end
   checks_fine (InAbort false t x a) p e h le fl has end = checks_fine a p e h.4 le fl has end
@@ -183,16 +183,16 @@ module _ (k : PlainKernel) (thread : Option ℕ) (b : PlainBlock) (depths : List
       let next = lead_first depths (p + 1) (length (checks a)) (checks_depths a) (checks_first a) (checks_length a) has.1 end' in
       ((h.0, omega (arith, fl), (next, h.3, omega (arith, le, h.2))), checks_fine a (p + 1) e h.4 (omega (arith, le)) (omega (arith, fl)) has.1 end')
 
-  guard_fine : (weak : Bool) (f x q e : ℕ) → IsSome thread → Leads depths x 0 → f < b.flags → Leads depths (q + 1) 0 → Fine k thread b depths q (guard weak f x ∷ []) (1 ∷ [])
+  guard_fine : (weak : Bool) (f x q e : ℕ) → IsSome thread → HasDepth depths x 0 → f < b.flags → HasDepth depths (q + 1) 0 → Fine k thread b depths q (guard weak f x ∷ []) (1 ∷ [])
   guard_fine false f x q e some exit fl next = let less : 0 ≡ 1 - 1 = omega arith in ((omega arith, lead _ _ _ _ refl less next, lead _ _ _ _ refl less exit), tt)
   guard_fine true f x q e some exit fl next = let less : 0 ≡ 1 - 1 = omega arith in ((some, fl, omega arith, lead _ _ _ _ refl less next), tt)
 
   -- (a strong abort's guard names no flag)
-  strong_fine : (f x q : ℕ) → Leads depths x 0 → Leads depths (q + 1) 0 → Fine k thread b depths q (guard false f x ∷ []) (1 ∷ [])
+  strong_fine : (f x q : ℕ) → HasDepth depths x 0 → HasDepth depths (q + 1) 0 → Fine k thread b depths q (guard false f x ∷ []) (1 ∷ [])
   strong_fine f x q exit next = let less : 0 ≡ 1 - 1 = omega arith in ((omega arith, lead _ _ _ _ refl less next, lead _ _ _ _ refl less exit), tt)
 
   -- a test and its guard
-  guarded_fine : (weak : Bool) (t : Expr) (f x p : ℕ) → IsSome thread → FineExpr (z k thread b depths) t → Leads depths x 0 → (weak ≡ true → f < b.flags) → HasAt depths p (expression_depths 0 t ++ 1 ∷ []) → Leads depths (p + length (expression_code p t ++ guard weak f x ∷ [])) 0 →
+  guarded_fine : (weak : Bool) (t : Expr) (f x p : ℕ) → IsSome thread → FineExpr (z k thread b depths) t → HasDepth depths x 0 → (weak ≡ true → f < b.flags) → HasAt depths p (expression_depths 0 t ++ 1 ∷ []) → HasDepth depths (p + length (expression_code p t ++ guard weak f x ∷ [])) 0 →
       Fine k thread b depths p (expression_code p t ++ guard weak f x ∷ []) (expression_depths 0 t ++ 1 ∷ [])
   guarded_fine weak t f x p some fit exit fl has end =
       let c = expression_code p t in
@@ -201,7 +201,7 @@ module _ (k : PlainKernel) (thread : Option ℕ) (b : PlainBlock) (depths : List
       let n : p + length (c ++ g ∷ []) ≡ p + length c + 1 = omega (arith, length-append c (g ∷ [])) in
       then_one p c g (expression_depths 0 t) 1 (expression_fine k thread b depths t 0 p fit (has_front depths p (expression_depths 0 t) _ has) here.0) (pick weak refl (lead _ _ _ _ n refl end))
     where
-      pick : (w : Bool) → weak ≡ w → Leads depths (p + length (expression_code p t) + 1) 0 → Fine k thread b depths (p + length (expression_code p t)) (guard w f x ∷ []) (1 ∷ [])
+      pick : (w : Bool) → weak ≡ w → HasDepth depths (p + length (expression_code p t) + 1) 0 → Fine k thread b depths (p + length (expression_code p t)) (guard w f x ∷ []) (1 ∷ [])
       pick false e next = strong_fine f x _ exit next
       pick true e next = guard_fine true f x _ 0 some exit (fl e) next
 
@@ -213,7 +213,7 @@ module _ (k : PlainKernel) (thread : Option ℕ) (b : PlainBlock) (depths : List
   weaks_outer true t x a n h = omega (arith, h)
   weaks_outer false t x a n h = h
 
-  prologue_fine : (a : Around) (w e : ℕ) → Encloses e a → loops a ≤ b.counters → weaks a ≤ b.flags → HasAt depths w (prologue_depths a) → Leads depths (w + length (prologue w a)) 0 → Fine k thread b depths w (prologue w a) (prologue_depths a)
+  prologue_fine : (a : Around) (w e : ℕ) → Encloses e a → loops a ≤ b.counters → weaks a ≤ b.flags → HasAt depths w (prologue_depths a) → HasDepth depths (w + length (prologue w a)) 0 → Fine k thread b depths w (prologue w a) (prologue_depths a)
   prologue_fine Outside w e h lo fl has end = tt
   prologue_fine (InLoop n a) w e h lo fl has end =
       let c = prologue w a in
@@ -232,7 +232,7 @@ module _ (k : PlainKernel) (thread : Option ℕ) (b : PlainBlock) (depths : List
       (prologue_fine a w e h.4 lo (weaks_outer weak t x a b.flags fl) (has_front depths w (prologue_depths a) _ has) (starts depths t 0 q (has_front depths q (expression_depths 0 t) _ here)))
       (guarded_fine weak t (weaks a) x q h.0 h.1 h.3 (flag_there weak t x a b.flags fl) here (lead _ _ _ _ m refl end))
 
-  pause_fine : (a : Around) (p : ℕ) → IsSome thread → Encloses (p + length (pause_code p a)) a → loops a ≤ b.counters → weaks a ≤ b.flags → HasAt depths p (pause_depths (checks_depths a) (prologue_depths a)) → Leads depths (p + length (pause_code p a)) 0 →
+  pause_fine : (a : Around) (p : ℕ) → IsSome thread → Encloses (p + length (pause_code p a)) a → loops a ≤ b.counters → weaks a ≤ b.flags → HasAt depths p (pause_depths (checks_depths a) (prologue_depths a)) → HasDepth depths (p + length (pause_code p a)) 0 →
       Fine k thread b depths p (pause_code p a) (pause_depths (checks_depths a) (prologue_depths a))
   pause_fine a p some h lo fl has end =
       let c = checks a in
@@ -253,7 +253,7 @@ module _ (k : PlainKernel) (thread : Option ℕ) (b : PlainBlock) (depths : List
 
   -- ---- a fork
 
-  fork_fine : (j n r : ℕ) (a : Around) → IsParOf k.shape thread j → arguments_of k.shape (branches_in k.shape j) ≡ n → IsSome thread → Encloses (r + length (fork_code j r a)) a → loops a ≤ b.counters → weaks a ≤ b.flags → HasAt depths r (fork_depths n (checks_depths a) (prologue_depths a)) → Leads depths (r + length (fork_code j r a)) 0 →
+  fork_fine : (j n r : ℕ) (a : Around) → IsParOf k.shape thread j → arguments_of k.shape (branches_in k.shape j) ≡ n → IsSome thread → Encloses (r + length (fork_code j r a)) a → loops a ≤ b.counters → weaks a ≤ b.flags → HasAt depths r (fork_depths n (checks_depths a) (prologue_depths a)) → HasDepth depths (r + length (fork_code j r a)) 0 →
       Fine k thread b depths r (fork_code j r a) (fork_depths n (checks_depths a) (prologue_depths a))
   fork_fine j n r a par arity some h lo fl has end =
       let c = checks a in
@@ -269,7 +269,7 @@ module _ (k : PlainKernel) (thread : Option ℕ) (b : PlainBlock) (depths : List
       let tail_ds = 0 ∷ 0 ∷ (ds ++ 0 ∷ []) in
       let e = r + length (fork_code j r a) in
       let len : e ≡ out = omega (arith, fork_length j r a) in
-      let end' : Leads depths out 0 = lead _ _ _ _ len refl end in
+      let end' : HasDepth depths out 0 = lead _ _ _ _ len refl end in
       let h1 = back_at depths cp ds (0 ∷ (ps ++ tail_ds)) (length c) (checks_length a) has.1.1 in
       let h2 = back_at depths w ps tail_ds (length pr) (prologue_length w a) h1.1 in
       let h3 = back_at depths (g + 1 + 1) ds (0 ∷ []) (length c) (checks_length a) h2.1.1 in
@@ -322,7 +322,7 @@ module _ (k : PlainKernel) (thread : Option ℕ) (b : PlainBlock) (depths : List
     AllParsFine no_stmts = Unit {0}
     AllParsFine (more_stmts x rest) = ParsFine x × AllParsFine rest
 
-  arguments_fine : (bs : List Branch) (d p : ℕ) → FineBranches (z k thread b depths) bs → HasAt depths p (arguments_depths d bs) → Leads depths (p + length (arguments_code p bs)) (d + count_all bs) → Fine k thread b depths p (arguments_code p bs) (arguments_depths d bs)
+  arguments_fine : (bs : List Branch) (d p : ℕ) → FineBranches (z k thread b depths) bs → HasAt depths p (arguments_depths d bs) → HasDepth depths (p + length (arguments_code p bs)) (d + count_all bs) → Fine k thread b depths p (arguments_code p bs) (arguments_depths d bs)
   arguments_fine [] d p ok has end = tt
   arguments_fine (x ∷ bs) d p ok has end =
       let c = expressions_code p x.args in
@@ -338,28 +338,28 @@ module _ (k : PlainKernel) (thread : Option ℕ) (b : PlainBlock) (depths : List
       let fit = ok.0 in
       fine_join (scope k thread b depths) b depths p c cs ds es (expressions_fine k thread b depths x.args d p fit.args (has_front depths p ds es has) (begins bs n q h1 end')) (arguments_fine bs n q ok.1 h1 end')
     where
-      of_exprs : (xs : Exprs) (d q : ℕ) (rest : List ℕ) → HasAt depths q ((expressions_depths d xs) ++ rest) → (HasAt depths q rest → Leads depths q (d + count_exprs xs)) → Leads depths q d
-      of_exprs no_exprs d q rest h f = let e : d + 0 ≡ d = omega arith in subst (Leads depths q) e (f h)
+      of_exprs : (xs : Exprs) (d q : ℕ) (rest : List ℕ) → HasAt depths q ((expressions_depths d xs) ++ rest) → (HasAt depths q rest → HasDepth depths q (d + count_exprs xs)) → HasDepth depths q d
+      of_exprs no_exprs d q rest h f = let e : d + 0 ≡ d = omega arith in subst (HasDepth depths q) e (f h)
       of_exprs (more_exprs y ys) d q rest h f = starts depths y d q (has_front depths q (expression_depths d y) _ (has_front depths q (expressions_depths d (more_exprs y ys)) rest h))
 
-      begins : (bs : List Branch) (d q : ℕ) → HasAt depths q (arguments_depths d bs) → Leads depths (q + length (arguments_code q bs)) (d + count_all bs) → Leads depths q d
+      begins : (bs : List Branch) (d q : ℕ) → HasAt depths q (arguments_depths d bs) → HasDepth depths (q + length (arguments_code q bs)) (d + count_all bs) → HasDepth depths q d
       begins [] d q h e = let n : q + 0 ≡ q = omega arith in let m : d + 0 ≡ d = omega arith in lead _ _ _ _ n m e
       begins (y ∷ ys) d q h e = of_args y.args h (λ g e'. begins ys (d + count_exprs y.args) q g e') e
         where
-          of_args : (xs : Exprs) → HasAt depths q (expressions_depths d xs ++ arguments_depths (d + count_exprs xs) ys) → (HasAt depths q (arguments_depths (d + count_exprs xs) ys) → Leads depths (q + length (arguments_code q ys)) (d + count_exprs xs + count_all ys) → Leads depths q (d + count_exprs xs)) →
-              Leads depths (q + length (expressions_code q xs ++ arguments_code (q + length (expressions_code q xs)) ys)) (d + (count_exprs xs + count_all ys)) → Leads depths q d
+          of_args : (xs : Exprs) → HasAt depths q (expressions_depths d xs ++ arguments_depths (d + count_exprs xs) ys) → (HasAt depths q (arguments_depths (d + count_exprs xs) ys) → HasDepth depths (q + length (arguments_code q ys)) (d + count_exprs xs + count_all ys) → HasDepth depths q (d + count_exprs xs)) →
+              HasDepth depths (q + length (expressions_code q xs ++ arguments_code (q + length (expressions_code q xs)) ys)) (d + (count_exprs xs + count_all ys)) → HasDepth depths q d
           of_args no_exprs h f e =
               let n : q + length (arguments_code (q + 0) ys) ≡ q + length (arguments_code q ys) = (let z : q + 0 ≡ q = omega arith in ap (λ i. q + length (arguments_code i ys)) z) in
               let m : d + (0 + count_all ys) ≡ d + 0 + count_all ys = omega arith in
               let same : d + 0 ≡ d = omega arith in
-              subst (Leads depths q) same (f h (lead _ _ _ _ n m e))
+              subst (HasDepth depths q) same (f h (lead _ _ _ _ n m e))
           of_args (more_exprs x xs) h f e = starts depths x d q (has_front depths q (expression_depths d x) _ (has_front depths q (expressions_depths d (more_exprs x xs)) _ h))
 
-  fill_fine : (n : Option ℕ) (w p : ℕ) → (counted_in n w) → Leads depths (p + length (fill_code n w)) 0 → Fine k thread b depths p (fill_code n w) (fill_depths n)
+  fill_fine : (n : Option ℕ) (w p : ℕ) → (counted_in n w) → HasDepth depths (p + length (fill_code n w)) 0 → Fine k thread b depths p (fill_code n w) (fill_depths n)
   fill_fine None w p lt end = tt
   fill_fine (Some n) w p lt end = ((lt, end), tt)
 
-  turn_fine : (n : Option ℕ) (w p : ℕ) (place : Place) → (counted_in n w) → Leads depths (p + length (turn_code n w place)) 0 → Fine k thread b depths p (turn_code n w place) (fill_depths n)
+  turn_fine : (n : Option ℕ) (w p : ℕ) (place : Place) → (counted_in n w) → HasDepth depths (p + length (turn_code n w place)) 0 → Fine k thread b depths p (turn_code n w place) (fill_depths n)
   turn_fine None w p place lt end = tt
   turn_fine (Some n) w p place lt end = ((lt, end), tt)
 
@@ -372,11 +372,11 @@ module _ (k : PlainKernel) (thread : Option ℕ) (b : PlainBlock) (depths : List
 
   -- ---- all of them
 
-  counted_here : (n : Option ℕ) (i m : ℕ) → i + counted n m ≤ b.counters → counted_in n i
+  counted_here : (n : Option ℕ) (i m : ℕ) → i + loop_nesting n m ≤ b.counters → counted_in n i
   counted_here None i m h = tt
   counted_here (Some n) i m h = omega (arith, h)
 
-  counted_inside : (n : Option ℕ) (a : Around) (m : ℕ) → loops a + counted n m ≤ b.counters → loops (inner n a) + m ≤ b.counters
+  counted_inside : (n : Option ℕ) (a : Around) (m : ℕ) → loops a + loop_nesting n m ≤ b.counters → loops (inner n a) + m ≤ b.counters
   counted_inside None a m h = h
   counted_inside (Some n) a m h = omega (arith, h)
 
@@ -396,7 +396,7 @@ module _ (k : PlainKernel) (thread : Option ℕ) (b : PlainBlock) (depths : List
   flagged_here false i m h e = cc
   flagged_here true i m h e = omega (arith, h)
 
-  set_fine : (to : spot_type.Spot) (e : Expr) (p : ℕ) → kernel.FineSpot (z k thread b depths) to → FineExpr (z k thread b depths) e → HasAt depths p (expression_depths 0 e ++ 1 ∷ []) → Leads depths (p + length (expression_code p e ++ set_code to ∷ [])) 0 →
+  set_fine : (to : spot_type.Spot) (e : Expr) (p : ℕ) → kernel.FineSpot (z k thread b depths) to → FineExpr (z k thread b depths) e → HasAt depths p (expression_depths 0 e ++ 1 ∷ []) → HasDepth depths (p + length (expression_code p e ++ set_code to ∷ [])) 0 →
       Fine k thread b depths p (expression_code p e ++ set_code to ∷ []) (expression_depths 0 e ++ 1 ∷ [])
   set_fine to e p fit ok has end = test_fine e 1 p (set_code to) [] [] ok has refl (pick to fit (lead _ _ _ _ n less end))
     where
@@ -406,13 +406,13 @@ module _ (k : PlainKernel) (thread : Option ℕ) (b : PlainBlock) (depths : List
       less : 0 ≡ 1 - 1
       less = omega arith
 
-      pick : (to : spot_type.Spot) → kernel.FineSpot (z k thread b depths) to → Leads depths (p + length (expression_code p e) + 1) (1 - 1) → Fine k thread b depths (p + length (expression_code p e)) (set_code to ∷ []) (1 ∷ [])
+      pick : (to : spot_type.Spot) → kernel.FineSpot (z k thread b depths) to → HasDepth depths (p + length (expression_code p e) + 1) (1 - 1) → Fine k thread b depths (p + length (expression_code p e)) (set_code to ∷ []) (1 ∷ [])
       pick (spot.Local x) fit next = ((fit, omega arith, next), tt)
       pick (spot.Variable v) fit next = ((fit, omega arith, next), tt)
 
   -- an index and a value in front of an instruction
   element_fine : (i e : Expr) (p : ℕ) (last : Instruction) → FineExpr (z k thread b depths) i → FineExpr (z k thread b depths) e → HasAt depths p (expression_depths 0 i ++ (expression_depths 1 e ++ 2 ∷ [])) →
-      Leads depths (p + length (expression_code p i ++ (expression_code (p + length (expression_code p i)) e ++ last ∷ []))) 0 → ((q : ℕ) → Leads depths (q + 1) (2 - 2) → IsFine (scope k thread b depths) b depths q 2 last) →
+      HasDepth depths (p + length (expression_code p i ++ (expression_code (p + length (expression_code p i)) e ++ last ∷ []))) 0 → ((q : ℕ) → HasDepth depths (q + 1) (2 - 2) → IsFine (scope k thread b depths) b depths q 2 last) →
       Fine k thread b depths p (expression_code p i ++ (expression_code (p + length (expression_code p i)) e ++ last ∷ [])) (expression_depths 0 i ++ (expression_depths 1 e ++ 2 ∷ []))
   element_fine i e p last oki oke has end fine =
       let ci = expression_code p i in
@@ -428,7 +428,7 @@ module _ (k : PlainKernel) (thread : Option ℕ) (b : PlainBlock) (depths : List
       (expression_fine k thread b depths i 0 p oki (has_front depths p (expression_depths 0 i) _ has) (lead _ _ _ _ refl one (starts depths e 1 q (has_front depths q (expression_depths 1 e) _ h1))))
       (then_one q ce last (expression_depths 1 e) 2 (expression_fine k thread b depths e 1 q oke (has_front depths q (expression_depths 1 e) _ h1) (lead _ _ _ _ refl two h2.0)) (fine (q + length ce) (lead _ _ _ _ n less end), tt))
 
-  enter_fine : (weak immediate : Bool) (e : Expr) (f x p : ℕ) → IsSome thread → FineExpr (z k thread b depths) e → Leads depths x 0 → (weak ≡ true → f < b.flags) → HasAt depths p (enter_depths weak immediate e) → Leads depths (p + length (enter_code weak immediate f x (expression_code p e))) 0 →
+  enter_fine : (weak immediate : Bool) (e : Expr) (f x p : ℕ) → IsSome thread → FineExpr (z k thread b depths) e → HasDepth depths x 0 → (weak ≡ true → f < b.flags) → HasAt depths p (enter_depths weak immediate e) → HasDepth depths (p + length (enter_code weak immediate f x (expression_code p e))) 0 →
       Fine k thread b depths p (enter_code weak immediate f x (expression_code p e)) (enter_depths weak immediate e)
   enter_fine false false e f x p some ok exit fl has end = tt
   enter_fine true false e f x p some ok exit fl has end = ((some, fl refl, end), tt)
@@ -437,7 +437,7 @@ module _ (k : PlainKernel) (thread : Option ℕ) (b : PlainBlock) (depths : List
 
   mutual
     pub statement_fine : (x : Stmt) (a : Around) (p : ℕ) (kind : Bool) (cs ps : List ℕ) → IsOf thread kind → FineStmt kind (z k thread b depths) x → ParsFine x → Encloses (p + length (statement_code k.shape.threads a p x)) a → loops a + counters_in x ≤ b.counters → weaks a + flags_in x ≤ b.flags → cs ≡ checks_depths a → ps ≡ prologue_depths a →
-        HasAt b.steps p (statement_code k.shape.threads a p x) → HasAt depths p (statement_depths cs ps x) → Leads depths (p + length (statement_code k.shape.threads a p x)) 0 → Fine k thread b depths p (statement_code k.shape.threads a p x) (statement_depths cs ps x)
+        HasAt b.steps p (statement_code k.shape.threads a p x) → HasAt depths p (statement_depths cs ps x) → HasDepth depths (p + length (statement_code k.shape.threads a p x)) 0 → Fine k thread b depths p (statement_code k.shape.threads a p x) (statement_depths cs ps x)
     statement_fine Nop a p kind cs ps is ok par round lo fl hc hp code has end = tt
     statement_fine (Set to e) a p kind cs ps is ok par round lo fl hc hp code has end = set_fine to e p ok.0 ok.1 has end
     statement_fine (SetAt x n i e place) a p kind cs ps is ok par round lo fl hc hp code has end =
@@ -465,7 +465,7 @@ module _ (k : PlainKernel) (thread : Option ℕ) (b : PlainBlock) (depths : List
         let h2 = back_at depths q dx (0 ∷ dy) (length cx) (statement_length ts x a q cs ps hc hp) h1.1 in
         let s1 = has_back b.steps p test _ code in
         let s2 = has_back b.steps q cx _ s1.1 in
-        let end' : Leads depths out 0 = lead _ _ _ _ len refl end in
+        let end' : HasDepth depths out 0 = lead _ _ _ _ len refl end in
         let less : 0 ≡ 1 - 1 = omega arith in
         let first_x = lead_first depths q (length cx) dx (statement_first x cs ps) (statement_length ts x a q cs ps hc hp) (has_front depths q dx _ h1.1) h2.0 in
         let first_y = lead_first depths r (length cy) dy (statement_first y cs ps) (statement_length ts y a r cs ps hc hp) h2.1 end' in
@@ -506,12 +506,12 @@ module _ (k : PlainKernel) (thread : Option ℕ) (b : PlainBlock) (depths : List
         let s1 = has_back b.steps p fill _ code in
         let s2 = has_back b.steps h test _ s1 in
         let s3 = has_back b.steps t turn _ s2.1 in
-        let end' : Leads depths out 0 = lead _ _ _ _ len refl end in
+        let end' : HasDepth depths out 0 = lead _ _ _ _ len refl end in
         let less : 0 ≡ 1 - 1 = omega arith in
         let here = counted_here n (loops a) (counters_in x) lo in
         let begin_test = starts depths e 0 h (has_front depths h (expression_depths 0 e) _ h1) in
         let begin_body = lead_first depths q (length cx) dx (statement_first x cs ps') long (has_front depths q dx _ h3) h4.0 in
-        let turn_end : Leads depths t 0 = lead_first depths t (length turn) fd (fill_first n) (turn_length n (loops a) place) (has_front depths t fd _ h2.1) begin_body in
+        let turn_end : HasDepth depths t 0 = lead_first depths t (length turn) fd (fill_first n) (turn_length n (loops a) place) (has_front depths t fd _ h2.1) begin_body in
         fine_join (scope k thread b depths) b depths p fill (loop_code h test turn (λ b. statement_code ts (inner n a) b x)) fd (expression_depths 0 e ++ (1 ∷ body_ds)) (fill_fine n (loops a) p here begin_test)
         (test_fine e 1 h (instruction.Zero out) (turn ++ (cx ++ back ∷ [])) body_ds ok.1 h1 refl (
           (omega arith, lead _ _ _ _ refl less turn_end, lead _ _ _ _ refl less end'),
@@ -563,10 +563,10 @@ module _ (k : PlainKernel) (thread : Option ℕ) (b : PlainBlock) (depths : List
         let ed = enter_depths weak immediate e in
         let dx = statement_depths cs' ps' x in
         let some = in_thread thread kind is ok.0 in
-        let exit : Leads depths y 0 = lead _ _ _ _ len refl end in
+        let exit : HasDepth depths y 0 = lead _ _ _ _ len refl end in
         let h1 : HasAt depths q dx = subst (λ n. HasAt depths n dx) start (back_at depths p ed dx (length pre) (enter_depths_length weak immediate e (weaks a) y p) has) in
         let s1 : HasAt b.steps q body = subst (λ n. HasAt b.steps n body) start (has_back b.steps p pre body code) in
-        let body_end : Leads depths (q + length body) 0 = lead _ _ _ _ (sym finish) refl exit in
+        let body_end : HasDepth depths (q + length body) 0 = lead _ _ _ _ (sym finish) refl exit in
         let begin_body = lead_first depths q (length body) dx (statement_first x cs' ps') (statement_length ts x around q cs' ps' hc' hp') h1 body_end in
         let round' : Encloses (q + length body) around = (some, ok.1, omega (arith, finish), exit, enclosed a (q + length body) whole (omega (arith, len, finish)) round) in
         fine_join (scope k thread b depths) b depths p pre body ed dx
@@ -576,7 +576,7 @@ module _ (k : PlainKernel) (thread : Option ℕ) (b : PlainBlock) (depths : List
         test_fine e 1 p instruction.Return [] [] ok.1 has refl ((in_function thread kind is ok.0, omega arith), tt)
 
     pub statements_fine : (list : Stmts) (a : Around) (p : ℕ) (kind : Bool) (cs ps : List ℕ) → IsOf thread kind → FineStmts kind (z k thread b depths) list → AllParsFine list → Encloses (p + length (statements_code k.shape.threads a p list)) a → loops a + counters_of list ≤ b.counters → weaks a + flags_of list ≤ b.flags → cs ≡ checks_depths a → ps ≡ prologue_depths a →
-        HasAt b.steps p (statements_code k.shape.threads a p list) → HasAt depths p (statements_depths cs ps list) → Leads depths (p + length (statements_code k.shape.threads a p list)) 0 → Fine k thread b depths p (statements_code k.shape.threads a p list) (statements_depths cs ps list)
+        HasAt b.steps p (statements_code k.shape.threads a p list) → HasAt depths p (statements_depths cs ps list) → HasDepth depths (p + length (statements_code k.shape.threads a p list)) 0 → Fine k thread b depths p (statements_code k.shape.threads a p list) (statements_depths cs ps list)
     statements_fine no_stmts a p kind cs ps is ok par round lo fl hc hp code has end = tt
     statements_fine (more_stmts x rest) a p kind cs ps is ok par round lo fl hc hp code has end =
         let ts = k.shape.threads in

@@ -4,7 +4,7 @@ use Rattle.std.specs.Prelude.{ℕ, zero, suc, ◌≡◌, ◌≤◌, ℤ, Bool, t
 use Rattle.forec_kernel.specs.declared.terms.Spot.TheVariants as spot
 use Rattle.forec_kernel.specs.Terms.{Expr, Num, Local, LocalAt, Var, SharedAt, TableAt, Un, Bin, And, Or, Choose, Call, Exprs, no_exprs, more_exprs, count_exprs, Stmt, Nop, Set, SetAt, PutAt, Clear, Seq, If, While, Pause, Par, Enter, Return, Stmts, no_stmts, more_stmts}
 use Rattle.forec_kernel.specs.Shapes.{PlainKernel}
-use Rattle.forec_kernel.specs.WellFormed.{Scope, IsSharedArray, FineExpr}
+use Rattle.forec_kernel.specs.WellFormed.{TermScope, IsSharedArray, FineExpr}
 use Rattle.forec_kernel.specs.Values.{Value, fresh_words}
 use Rattle.thread_code.specs.Plain.{PlainBlock, PlainCode}
 use Rattle.thread_code.specs.Valid.{function_arguments}
@@ -49,7 +49,7 @@ no_elements k words v zero h = let some : 1 ≤ 0 = h.some in absurd (omega arit
 no_elements k words v (suc n) h = let used : false ≡ true = h.used in cc
 
 -- What stands in an int function's body: it reads no variable.
-module _ (c : PlainCode) (ok : ℕ → Bool) (z : Scope) where
+module _ (c : PlainCode) (ok : ℕ → Bool) (z : TermScope) where
   -- an expression of a function
   pub record Own_expression (e : Expr) : Type 0 where
     pub fits : Fits c ok e

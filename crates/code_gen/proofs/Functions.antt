@@ -7,13 +7,13 @@ use Rattle.forec_base.specs.declared.Trap.TheVariants.{Index, Turns}
 use Rattle.forec_kernel.specs.declared.terms.Spot.TheVariants as spot
 use Rattle.forec_kernel.specs.Terms.{Expr, Num, Local, LocalAt, Var, SharedAt, TableAt, Un, Bin, And, Or, Choose, Call, Exprs, no_exprs, more_exprs, Stmt, Nop, Set, SetAt, PutAt, Clear, Seq, If, While, Pause, Par, Enter, Return, Stmts, no_stmts, more_stmts}
 use Rattle.forec_kernel.specs.Shapes.{PlainKernel, PlainThread}
-use Rattle.forec_kernel.specs.Values.{word, index_in, Value, Gives, Raises, more_units, value_then, first_then, values_then, Setting, Sight, divided, at_index, val, vals, Flow, Goes, Returns, Breaks, more_flow, flow_with, flow_then, words_alone, cleared, stored_at, turns, flow, flows, returned}
-use Rattle.forec_kernel.specs.WellFormed.{Scope, FineExpr, FineExprs}
+use Rattle.forec_kernel.specs.Values.{word, index_in, Value, Gives, Raises, more_units, value_then, first_then, values_then, Setting, Sight, divided, at_index, val, vals, Flow, Goes, Returns, Breaks, more_flow, flow_with, flow_then, words_alone, cleared, stored_at, turns, flow, flows, flow_value}
+use Rattle.forec_kernel.specs.WellFormed.{TermScope, FineExpr, FineExprs}
 use Rattle.thread_code.specs.declared.instruction.Instruction.{Instruction}
 use Rattle.thread_code.specs.declared.instruction.Instruction.TheVariants as instruction
 use Rattle.thread_code.specs.Plain.{PlainCode}
 use Rattle.thread_code.specs.Machine as machine
-use Rattle.thread_code.specs.Machine.{Frame, Own, Machine, On, Trapped, unless_none, turn_taken, put_at, onward, uses_of}
+use Rattle.thread_code.specs.Machine.{Frame, Own, Machine, On, Trapped, unless_none, turn_taken, put_at, onward, code_uses}
 use Rattle.code_gen.specs.Expressions.{expression_code}
 use Rattle.code_gen.specs.Statements.{Around, Outside, InLoop, loops, loop_code, statement_code, statements_code}
 use Rattle.code_gen.proofs.Cells.{put_same, put_other}
@@ -24,7 +24,7 @@ use Rattle.code_gen.proofs.Exprs.{expression_runs}
 
 -- an expression that reads no variable does not look at the copies
 module _ (s : Setting) (words : List ℤ) (e : Sight) (k : PlainKernel) (n : ℕ) (same : e.words ≡ words) where
-  abbrev z : Scope
+  abbrev z : TermScope
   z = record { kernel = k; words = n; uses = [] }
 
   mutual
@@ -63,7 +63,7 @@ module _ (c : PlainCode) (t : ℕ) (call : ℕ → List ℤ → Value) (ok : ℕ
   abbrev set : Setting
   set = record { tables = c.shape.tables; call = call }
 
-  abbrev z' : Scope
+  abbrev z' : TermScope
   z' = record { kernel = k; words = size; uses = [] }
 
   -- inside the function, and after its return
@@ -126,7 +126,7 @@ module _ (c : PlainCode) (t : ℕ) (call : ℕ → List ℤ → Value) (ok : ℕ
       Yields c t (On (point s p st w cs) fs o u) u (λ n v. On (point s (p + length (expression_code p x)) (n ∷ st) w cs) fs o v) (val set (words_alone w) x)
   test_does x p st w cs u fit has =
       subst (λ r. Yields c t (On (point s p st w cs) fs o u) u (λ n v. On (point s (p + length (expression_code p x)) (n ∷ st) w cs) fs o v) r)
-      (same_value set w (record { words = w; uses = uses_of c t; copies = o.copies }) k size refl x fit.fine)
+      (same_value set w (record { words = w; uses = code_uses c t; copies = o.copies }) k size refl x fit.fine)
       (expression_runs c t call ok run s w cs fs o x p st u fit.fits has)
 
   branch : (b : Bool) (i q : ℕ) (cs : List ℕ) (r j : ℕ) (w : List ℤ) (m : Machine) (u : ℕ) (x y : Flow) → Comes c t m (inn (cond b r j) w cs (u + 1)) → Does i q cs (inn r w cs (u + 1)) u x → Does i q cs (inn j w cs (u + 1)) u y →
@@ -275,13 +275,13 @@ module _ (c : PlainCode) (t : ℕ) (call : ℕ → List ℤ → Value) (ok : ℕ
 
   -- a whole function: where its body does not return, it gives 0
   pub function_does : (b : Stmt) (p : ℕ) (w : List ℤ) (cs : List ℕ) (u : ℕ) → BodyFits c ok z' b → p ≡ 0 →
-      HasAt s p (statement_code ts Outside p b ++ instruction.Quiet (pos 0) ∷ instruction.Return ∷ []) → Yields c t (inn p w cs u) u out (returned (flow set b w))
+      HasAt s p (statement_code ts Outside p b ++ instruction.Quiet (pos 0) ∷ instruction.Return ∷ []) → Yields c t (inn p w cs u) u out (flow_value (flow set b w))
   function_does b p w cs u fit start has = given (flow set b w) (body_does b Outside p w cs u fit (has_front s p (statement_code ts Outside p b) _ has))
     where
       q : ℕ
       q = p + length (statement_code ts Outside p b)
 
-      given : (f : Flow) → Does 0 (p + length (statement_code ts Outside p b)) cs (inn p w cs u) u f → Yields c t (inn p w cs u) u out (returned f)
+      given : (f : Flow) → Does 0 (p + length (statement_code ts Outside p b)) cs (inn p w cs u) u f → Yields c t (inn p w cs u) u out (flow_value f)
       given (Goes w' n) g =
           let tail = has_back s p (statement_code ts Outside p b) _ has in
           let at = p + length (statement_code ts Outside p b) in

@@ -5,7 +5,7 @@ use Rattle.forec_base.specs.declared.Place.{Place}
 use Rattle.forec_base.specs.declared.Trap.{Trap}
 use Rattle.forec_kernel.specs.Shapes.{PlainKernel}
 use Rattle.forec_kernel.specs.Values.{call}
-use Rattle.forec_kernel.specs.Texts.{Running, Paused, Ended, Gone, Trapped, Text, Done, Run, Then, Turning, Resting, Fork, Held, Watch, Last, Threads, no_threads, child, some_running, all_over, first_trap, ended_are_gone, uses_of}
+use Rattle.forec_kernel.specs.Texts.{Running, Paused, Ended, Gone, Trapped, RunningText, Done, Run, Then, Turning, Resting, Fork, Held, Watch, Last, Threads, no_threads, child, some_running, all_over, first_trap, ended_are_gone, uses_of}
 use Rattle.forec_kernel.specs.WellFormed.{distinct}
 use Rattle.forec_kernel.specs.Combining.{contains, variable_of, joined_copies, Cost, Costs, Fails, join_cost}
 use Rattle.forec_kernel.specs.Steps.{Owner, combined, joined, text_move}
@@ -230,7 +230,7 @@ module _ (k : PlainKernel) (t : ℕ) (w : Awaited) (all : List Reply) (o : Own) 
   replied_trap (WasOver ∷ rs) place trap h = replied_trap rs place trap h
 
   abbrev pub merging : Machine
-  merging = Merges (record { left = all_shares (kernel_code k) w.branches all; totals = no_totals (machine.uses_of (kernel_code k) t) o.copies; back = back_to w all }) (record o { live = live_after w.branches all o.live }) u
+  merging = Merges (record { left = all_shares (kernel_code k) w.branches all; totals = no_totals (machine.code_uses (kernel_code k) t) o.copies; back = back_to w all }) (record o { live = live_after w.branches all o.live }) u
 
   pub replied_quiet : (rs : List Reply) → reply_trap rs ≡ None → replied (kernel_code k) t w all rs o u ≡ merging
   replied_quiet [] h = refl
@@ -325,7 +325,7 @@ module _ (k : PlainKernel) (t : ℕ) (run : CallsRun (kernel_code k) t (ok k) (c
             (join_runs k t run combines asc (record { copies = st.copies; flags = f.flags; live = after }) (back_to w rs) (all_replied cs rs) u))
 
     -- in its text
-    pub text_follows : (R : Text) (a : Around) (q : ℕ) → leaf R ≡ cs → At k t s a R (At_fork d g) q c f → Follows k t run s a (with_fork ds R) q st c f m u (text_move k [] (uses_of k t) st.words st.copies (with_fork ds R))
+    pub text_follows : (R : RunningText) (a : Around) (q : ℕ) → leaf R ≡ cs → At k t s a R (At_fork d g) q c f → Follows k t run s a (with_fork ds R) q st c f m u (text_move k [] (uses_of k t) st.words st.copies (with_fork ds R))
     text_follows Done a q e h = absurd h
     text_follows (Run x) a q e h = absurd h
     text_follows (Then R b) a q e h = then_runs k t run s b a (with_fork ds R) h.0 q st c f m u (text_move k [] (uses_of k t) st.words st.copies (with_fork ds R)) h.2 h.3 (text_follows R (inside a b) h.0 e h.1)
@@ -337,7 +337,7 @@ module _ (k : PlainKernel) (t : ℕ) (run : CallsRun (kernel_code k) t (ok k) (c
     text_follows (Last R) a q e h = last_runs k t run s h.0 a (with_fork ds R) h.1 q st c f m u (text_move k [] (uses_of k t) st.words st.copies (with_fork ds R)) h.3 h.4 (text_follows R (InAbort true h.0 h.1 a) h.1 e h.2)
 
   -- what waits at a fork
-  pub leaf_works : (R : Text) (a : Around) (d g q : ℕ) (c : List ℕ) (f : Marks) → At k t s a R (At_fork d g) q c f → Works k t s (leaf R) f.live
+  pub leaf_works : (R : RunningText) (a : Around) (d g q : ℕ) (c : List ℕ) (f : Marks) → At k t s a R (At_fork d g) q c f → Works k t s (leaf R) f.live
   leaf_works Done a d g q c f h = absurd h
   leaf_works (Run x) a d g q c f h = absurd h
   leaf_works (Then R b) a d g q c f h = leaf_works R (inside a b) d g h.0 c f h.1
@@ -348,7 +348,7 @@ module _ (k : PlainKernel) (t : ℕ) (run : CallsRun (kernel_code k) t (ok k) (c
   leaf_works (Watch weak x R) a d g q c f h = leaf_works R (InAbort weak x h.0 a) d g h.0 c f h.1
   leaf_works (Last R) a d g q c f h = leaf_works R (InAbort true h.0 h.1 a) d g h.1 c f h.2
 
-  pub fork_waits : (R : Text) (a : Around) (d g q : ℕ) (c : List ℕ) (f : Marks) → At k t s a R (At_fork d g) q c f → fork_of R ≡ Some (leaf R)
+  pub fork_waits : (R : RunningText) (a : Around) (d g q : ℕ) (c : List ℕ) (f : Marks) → At k t s a R (At_fork d g) q c f → fork_of R ≡ Some (leaf R)
   fork_waits Done a d g q c f h = absurd h
   fork_waits (Run x) a d g q c f h = absurd h
   fork_waits (Then R b) a d g q c f h = fork_waits R (inside a b) d g h.0 c f h.1
@@ -359,7 +359,7 @@ module _ (k : PlainKernel) (t : ℕ) (run : CallsRun (kernel_code k) t (ok k) (c
   fork_waits (Watch weak x R) a d g q c f h = fork_waits R (InAbort weak x h.0 a) d g h.0 c f h.1
   fork_waits (Last R) a d g q c f h = fork_waits R (InAbort true h.0 h.1 a) d g h.1 c f h.2
 
-  pub no_fork : (R : Text) (a : Around) (p q : ℕ) (c : List ℕ) (f : Marks) → At k t s a R (Here p) q c f → fork_of R ≡ None
+  pub no_fork : (R : RunningText) (a : Around) (p q : ℕ) (c : List ℕ) (f : Marks) → At k t s a R (Here p) q c f → fork_of R ≡ None
   no_fork Done a p q c f h = refl
   no_fork (Run x) a p q c f h = refl
   no_fork (Then R b) a p q c f h = no_fork R (inside a b) p h.0 c f h.1
@@ -371,7 +371,7 @@ module _ (k : PlainKernel) (t : ℕ) (run : CallsRun (kernel_code k) t (ok k) (c
   no_fork (Last R) a p q c f h = no_fork R (InAbort true h.0 h.1 a) p h.1 c f h.2
 
   -- after the replies no child runs
-  pub replied_no_fork : (R : Text) (a : Around) (d g q : ℕ) (c : List ℕ) (f : Marks) (es : Threads) → some_running es ≡ false → At k t s a R (At_fork d g) q c f → fork_of (with_fork es R) ≡ None
+  pub replied_no_fork : (R : RunningText) (a : Around) (d g q : ℕ) (c : List ℕ) (f : Marks) (es : Threads) → some_running es ≡ false → At k t s a R (At_fork d g) q c f → fork_of (with_fork es R) ≡ None
   replied_no_fork Done a d g q c f es e h = absurd h
   replied_no_fork (Run x) a d g q c f es e h = absurd h
   replied_no_fork (Then R b) a d g q c f es e h = replied_no_fork R (inside a b) d g h.0 c f es e h.1

@@ -7,10 +7,10 @@ use Rattle.forec_kernel.specs.Terms.{Expr, Branch, Stmt, Nop, Set, SetAt, PutAt,
 use Rattle.forec_kernel.specs.Shapes.{PlainKernel, PlainThread}
 use Rattle.forec_kernel.specs.Texts.{uses_in, params_in, uses_of, words_of, body_of}
 use Rattle.forec_kernel.specs.Combining.{contains, variable_of}
-use Rattle.forec_kernel.specs.WellFormed.{Scope, FineExpr, FineStmt, FineStmts, FineBranches, FinePar, WellFormed, distinct, threads_in, pars_of, pars_in, is_par, branches_of, blank_thread, calls_of, calls_in, branch_calls, stmt_calls, stmts_calls}
+use Rattle.forec_kernel.specs.WellFormed.{TermScope, FineExpr, FineStmt, FineStmts, FineBranches, FinePar, WellFormed, distinct, threads_in, pars_of, pars_in, is_par, branches_of, blank_thread, calls_of, calls_in, branch_calls, stmt_calls, stmts_calls}
 use Rattle.forec_kernel.specs.declared.shape.Variable.{Variable}
 use Rattle.thread_code.specs.Valid.{branches_in}
-use Rattle.code_gen.specs.Statements.{par_in, number_or, par_number}
+use Rattle.code_gen.specs.Statements.{par_in, bound_or_zero, par_number}
 use Rattle.code_gen.specs.Blocks.{kernel_code}
 use Rattle.code_gen.proofs.Each.{Each, each_front, each_back, each_map}
 use Rattle.code_gen.proofs.Deep.{deep, statement_named}
@@ -79,10 +79,10 @@ module _ (k : PlainKernel) (fine : WellFormed k) where
       let r = branch_par k.shape.threads 0 par.number b.thread (ap (contains b.thread) (sym par.are) ∙ among) in
       let i : r.0 ≡ b.thread = (let e = r.1 in omega (arith, e)) in
       let is : par_in k.shape.threads b.thread ≡ Some par.number = ap (par_in k.shape.threads) (sym i) ∙ r.2 in
-      ap (λ (x : Option ℕ). branches_of k.shape.threads 0 (number_or x)) is ∙ sym par.are
+      ap (λ (x : Option ℕ). branches_of k.shape.threads 0 (bound_or_zero x)) is ∙ sym par.are
 
   module _ (t : ℕ) (words : ℕ) (uses : List ℕ) where
-    abbrev z : Scope
+    abbrev z : TermScope
     z = record { kernel = k; words = words; uses = uses }
 
     abbrev Ok : ℕ → Type 0

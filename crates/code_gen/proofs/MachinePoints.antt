@@ -4,7 +4,7 @@ use Rattle.std.specs.Prelude.{ℤ, ◌≢◌, slice_get}
 use Rattle.forec_kernel.specs.declared.shape.VarCopy.{VarCopy}
 use Rattle.forec_kernel.specs.Terms.{Expr, count_exprs, Branch, Stmt, Nop, Set, SetAt, PutAt, Clear, Seq, If, While, Pause, Par, Enter, Return, Stmts, no_stmts, more_stmts}
 use Rattle.forec_kernel.specs.Shapes.{PlainKernel}
-use Rattle.forec_kernel.specs.Texts.{Loop, After, Go_on, Again, Running, Paused, Ended, Gone, Trapped, Text, Done, Run, Then, Turning, Resting, Fork, Held, Watch, Last, Threads, no_threads, child, text_of, texts_of, is_running, some_running, params_of}
+use Rattle.forec_kernel.specs.Texts.{Loop, After, Go_on, Again, Running, Paused, Ended, Gone, Trapped, RunningText, Done, Run, Then, Turning, Resting, Fork, Held, Watch, Last, Threads, no_threads, child, text_of, texts_of, is_running, some_running, params_of}
 use Rattle.forec_kernel.specs.WellFormed.{distinct, threads_in}
 use Rattle.forec_kernel.specs.Solo.{seeds_for}
 use Rattle.thread_code.specs.declared.instruction.Instruction.{Instruction}
@@ -65,7 +65,7 @@ some_paused (child t R w c Paused rest) = true
 some_paused (child t R w c st rest) = some_paused rest
 
 -- the children of the fork in a text
-abbrev pub leaf : Text → Threads
+abbrev pub leaf : RunningText → Threads
 leaf Done = no_threads
 leaf (Run s) = no_threads
 leaf (Then R a) = leaf R
@@ -241,7 +241,7 @@ module _ (k : PlainKernel) (t : ℕ) (s : List Instruction) where
     pub ends : Ends (w + length (prologue w a)) q
 
   -- The machine is at a place that has this text before it, and comes to q where the text is done.
-  abbrev pub At : Around → Text → Where → ℕ → List ℕ → Marks → Type 0
+  abbrev pub At : Around → RunningText → Where → ℕ → List ℕ → Marks → Type 0
   At a Done (Here p) q c f = Ends p q
   At a Done (At_fork d g) q c f = ⊥
   At a (Run x) (Here p) q c f = StatementAt a x p q
@@ -259,7 +259,7 @@ module _ (k : PlainKernel) (t : ℕ) (s : List Instruction) where
   At a (Last R) pl q c f = (e : Expr) × (x : ℕ) × At (InAbort true e x a) R pl x c f × Ends x q × (get_or f.flags (weaks a) false ≡ true)
 
   -- A halted text, whose wake address is w.
-  abbrev pub WakeAt : Around → Text → ℕ → ℕ → List Bool → Type 0
+  abbrev pub WakeAt : Around → RunningText → ℕ → ℕ → List Bool → Type 0
   WakeAt a Done w q live = ⊥
   WakeAt a (Run x) w q live = ⊥
   WakeAt a (Then R b) w q live = (m : ℕ) × WakeAt (inside a b) R w m live × BehindAt a b m q
@@ -308,7 +308,7 @@ module _ (k : PlainKernel) (t : ℕ) (s : List Instruction) where
   -- ---- what a step or a waking of a text leads to
 
   -- the machine comes to a place that has this text before it
-  pub record ReachesText (woke : Bool) (a : Around) (R : Text) (q : ℕ) (st : Store) (c : List ℕ) (f : Marks) (m : Machine) (u : ℕ) : Type 0 where
+  pub record ReachesText (woke : Bool) (a : Around) (R : RunningText) (q : ℕ) (st : Store) (c : List ℕ) (f : Marks) (m : Machine) (u : ℕ) : Type 0 where
     pub at : Where
     pub c' : List ℕ
     pub f' : Marks
@@ -316,18 +316,18 @@ module _ (k : PlainKernel) (t : ℕ) (s : List Instruction) where
     pub here : At a R at q c' f'
     pub below : SameBelow (loops a) (weaks a) c c' f f'
 
-  pub goes : (woke : Bool) (a : Around) (R : Text) (p q : ℕ) (st : Store) (c : List ℕ) (f : Marks) (m : Machine) (u : ℕ) → At a R (Here p) q c f → Comes (kernel_code k) t m (on p st c f u) → ReachesText woke a R q st c f m u
+  pub goes : (woke : Bool) (a : Around) (R : RunningText) (p q : ℕ) (st : Store) (c : List ℕ) (f : Marks) (m : Machine) (u : ℕ) → At a R (Here p) q c f → Comes (kernel_code k) t m (on p st c f u) → ReachesText woke a R q st c f m u
   goes woke a R p q st c f m u h g = record { at = Here p; c' = c; f' = f; comes = g; here = h; below = same_below (loops a) (weaks a) c f }
 
-  pub goes_from : {woke : Bool} {a : Around} {R : Text} {q : ℕ} {st : Store} {c : List ℕ} {f : Marks} {m m1 : Machine} {u : ℕ} → Comes (kernel_code k) t m m1 → ReachesText woke a R q st c f m1 u → ReachesText woke a R q st c f m u
+  pub goes_from : {woke : Bool} {a : Around} {R : RunningText} {q : ℕ} {st : Store} {c : List ℕ} {f : Marks} {m m1 : Machine} {u : ℕ} → Comes (kernel_code k) t m m1 → ReachesText woke a R q st c f m1 u → ReachesText woke a R q st c f m u
   goes_from h g = record { at = g.at; c' = g.c'; f' = g.f'; comes = comes_on (kernel_code k) t h g.comes; here = g.here; below = g.below }
 
   -- from other counters and flags of what is inside
-  pub goes_under : {woke : Bool} {a : Around} {R : Text} {q : ℕ} {st : Store} {c c1 : List ℕ} {f f1 : Marks} {m : Machine} {u : ℕ} → SameBelow (loops a) (weaks a) c c1 f f1 → ReachesText woke a R q st c1 f1 m u → ReachesText woke a R q st c f m u
+  pub goes_under : {woke : Bool} {a : Around} {R : RunningText} {q : ℕ} {st : Store} {c c1 : List ℕ} {f f1 : Marks} {m : Machine} {u : ℕ} → SameBelow (loops a) (weaks a) c c1 f f1 → ReachesText woke a R q st c1 f1 m u → ReachesText woke a R q st c f m u
   goes_under b g = record { at = g.at; c' = g.c'; f' = g.f'; comes = g.comes; here = g.here; below = then_below b g.below }
 
   -- the same units, written otherwise
-  pub goes_at : {woke : Bool} {a : Around} {R : Text} {q : ℕ} {st : Store} {c : List ℕ} {f : Marks} {m : Machine} {u u' : ℕ} → u ≡ u' → ReachesText woke a R q st c f m u → ReachesText woke a R q st c f m u'
+  pub goes_at : {woke : Bool} {a : Around} {R : RunningText} {q : ℕ} {st : Store} {c : List ℕ} {f : Marks} {m : Machine} {u u' : ℕ} → u ≡ u' → ReachesText woke a R q st c f m u → ReachesText woke a R q st c f m u'
   goes_at {woke = woke} {a = a} {R = R} {q = q} {st = st} {c = c} {f = f} {m = m} e g = subst (λ n. ReachesText woke a R q st c f m n) e g
 
   pub none_more : (p : ℕ) (st : Store) (c : List ℕ) (f : Marks) (m : Machine) (u : ℕ) → Comes (kernel_code k) t m (on p st c f u) → Comes (kernel_code k) t m (on p st c f (u + 0))
@@ -353,7 +353,7 @@ module _ (k : PlainKernel) (t : ℕ) (s : List Instruction) where
   turns_kept (Go_on list) a c c' f f' h l = tt
   turns_kept (Again loop) a c c' f f' h l = left_kept loop.bound loop.left a c c' f f' h l
 
-  pub goes_then : (woke : Bool) (b : After) (a : Around) (R : Text) (m q : ℕ) (st : Store) (c : List ℕ) (f : Marks) (mach : Machine) (u : ℕ) → BehindAt a b m q → Turns_left a b c → ReachesText woke (inside a b) R m st c f mach u → ReachesText woke a (Then R b) q st c f mach u
+  pub goes_then : (woke : Bool) (b : After) (a : Around) (R : RunningText) (m q : ℕ) (st : Store) (c : List ℕ) (f : Marks) (mach : Machine) (u : ℕ) → BehindAt a b m q → Turns_left a b c → ReachesText woke (inside a b) R m st c f mach u → ReachesText woke a (Then R b) q st c f mach u
   goes_then woke b a R m q st c f mach u h l g = record {
     at = g.at;
     c' = g.c';
@@ -371,7 +371,7 @@ module _ (k : PlainKernel) (t : ℕ) (s : List Instruction) where
   below_abort false e x a c c' f f' b = b
   below_abort true e x a c c' f f' b = record { counters = b.counters; flags = λ i lt. b.flags i (omega arith) }
 
-  pub goes_watch : (woke weak : Bool) (e : Expr) (a : Around) (R : Text) (x q : ℕ) (st : Store) (c : List ℕ) (f : Marks) (mach : Machine) (u : ℕ) → Ends x q → Fits (kernel_code k) (ok k) e → Unset weak (weaks a) f → ReachesText woke (InAbort weak e x a) R x st c f mach u → ReachesText woke a (Watch weak e R) q st c f mach u
+  pub goes_watch : (woke weak : Bool) (e : Expr) (a : Around) (R : RunningText) (x q : ℕ) (st : Store) (c : List ℕ) (f : Marks) (mach : Machine) (u : ℕ) → Ends x q → Fits (kernel_code k) (ok k) e → Unset weak (weaks a) f → ReachesText woke (InAbort weak e x a) R x st c f mach u → ReachesText woke a (Watch weak e R) q st c f mach u
   goes_watch woke weak e a R x q st c f mach u ends fit unset g = record {
     at = g.at;
     c' = g.c';
@@ -381,7 +381,7 @@ module _ (k : PlainKernel) (t : ℕ) (s : List Instruction) where
     below = below_abort weak e x a c g.c' f g.f' g.below;
   }
 
-  pub goes_last : (woke : Bool) (e : Expr) (a : Around) (R : Text) (x q : ℕ) (st : Store) (c : List ℕ) (f : Marks) (mach : Machine) (u : ℕ) → Ends x q → get_or f.flags (weaks a) false ≡ true → ReachesText woke (InAbort true e x a) R x st c f mach u → ReachesText woke a (Last R) q st c f mach u
+  pub goes_last : (woke : Bool) (e : Expr) (a : Around) (R : RunningText) (x q : ℕ) (st : Store) (c : List ℕ) (f : Marks) (mach : Machine) (u : ℕ) → Ends x q → get_or f.flags (weaks a) false ≡ true → ReachesText woke (InAbort true e x a) R x st c f mach u → ReachesText woke a (Last R) q st c f mach u
   goes_last woke e a R x q st c f mach u ends set g = record {
     at = g.at;
     c' = g.c';

@@ -5,9 +5,9 @@ use Rattle.std.proofs.lemmas.Bool.Decides.{nat_tests}
 use Rattle.forec_kernel.specs.declared.shape.VarCopy.{VarCopy}
 use Rattle.forec_kernel.specs.Shapes.{PlainKernel}
 use Rattle.forec_kernel.specs.Values.{Value, Gives, Raises, more_units, copy_of, call, fresh_words}
-use Rattle.forec_kernel.specs.Texts.{Status, Text, Threads, no_threads, child, uses_of}
+use Rattle.forec_kernel.specs.Texts.{Status, RunningText, Threads, no_threads, child, uses_of}
 use Rattle.forec_kernel.specs.Combining as combining
-use Rattle.forec_kernel.specs.Combining.{contains, shares, takes_part, taking_part, some_marked, Joint, variable_of, combine_of, joined_copies, calls_of, calls_from, calls_at, count_threads, in_order, Cost, Costs, Fails, more_cost, cost_of, join_cost}
+use Rattle.forec_kernel.specs.Combining.{contains, shares, takes_part, taking_part, some_marked, Joint, variable_of, combine_of, joined_copies, joint_calls, calls_from, calls_at, count_threads, calls_in_order, Cost, Costs, Fails, more_cost, cost_of, join_cost}
 use Rattle.thread_code.specs.Machine.{Point, BranchCopy, Total, Folding, Own, Machine, On, Merges, Trapped, total_of, put_total, no_totals, folded, entered, step}
 use Rattle.code_gen.specs.Blocks.{kernel_code}
 use Rattle.code_gen.proofs.Each.{Each, each_front, each_back}
@@ -224,7 +224,7 @@ module _ (k : PlainKernel) (t : ℕ) (run : CallsRun (kernel_code k) t (ok k) (c
   columns j cs totals v = rest_calls (joins k v) (total_of (uses_of k t) totals v).value (taking_part (policy k v) (base v) (shares k v j cs))
 
   abbrev all_calls : ℕ → Threads → List Total → List Value
-  all_calls j cs totals = in_order j (count_threads cs) (map (columns j cs totals) K)
+  all_calls j cs totals = calls_in_order j (count_threads cs) (map (columns j cs totals) K)
 
   pub record Combined (j : ℕ) (cs : Threads) (totals totals' : List Total) : Type 0 where
     pub sized : Sized (uses_of k t) o.copies totals'
@@ -269,7 +269,7 @@ module _ (k : PlainKernel) (t : ℕ) (run : CallsRun (kernel_code k) t (ok k) (c
   flat_each g (v ∷ vs) h = (each_front Given (g v) (flat g vs) h, flat_each g vs (each_back Given (g v) (flat g vs) h))
 
   -- the calls of the first branch, in either order
-  branch_calls_are : (n : ℕ) (R : Text) (w : List ℤ) (c : List VarCopy) (st : Status) (rest : Threads) (j : ℕ) (totals : List Total) → Sized (uses_of k t) o.copies totals →
+  branch_calls_are : (n : ℕ) (R : RunningText) (w : List ℤ) (c : List VarCopy) (st : Status) (rest : Threads) (j : ℕ) (totals : List Total) → Sized (uses_of k t) o.copies totals →
       calls_at j (map (columns j (child n R w c st rest) totals) K) ≡ list_calls (now totals) (branch_shares k n st c)
   branch_calls_are n R w c st rest j totals h =
       let left = branch_shares k n st c in
@@ -281,7 +281,7 @@ module _ (k : PlainKernel) (t : ℕ) (run : CallsRun (kernel_code k) t (ok k) (c
       ∙ share_calls_are v totals (share_in left v)))
       ∙ cross (now totals) K left (kept_ascends (uses_of k t) o.copies (asc t)) (branch_ascends k n st c (asc n)) (silent totals h left)
 
-  module _ (n : ℕ) (R : Text) (w : List ℤ) (c : List VarCopy) (st : Status) (rest : Threads) (j : ℕ) (totals totals1 : List Total) (sized : Sized (uses_of k t) o.copies totals) (done : Branched (branch_shares k n st c) totals totals1) (a : ℕ) (costs : cost_of (list_calls (now totals) (branch_shares k n st c)) ≡ Costs a) where
+  module _ (n : ℕ) (R : RunningText) (w : List ℤ) (c : List VarCopy) (st : Status) (rest : Threads) (j : ℕ) (totals totals1 : List Total) (sized : Sized (uses_of k t) o.copies totals) (done : Branched (branch_shares k n st c) totals totals1) (a : ℕ) (costs : cost_of (list_calls (now totals) (branch_shares k n st c)) ≡ Costs a) where
     abbrev left : List BranchCopy
     left = branch_shares k n st c
 
@@ -307,7 +307,7 @@ module _ (k : PlainKernel) (t : ℕ) (run : CallsRun (kernel_code k) t (ok k) (c
     total_done (Some d) v x = refl
 
     -- the calls of the other branches
-    rest_are : (count : ℕ) → in_order (suc j) count (map (columns j (child n R w c st rest) totals) K) ≡ in_order (suc j) count (map (columns (suc j) rest totals1) K)
+    rest_are : (count : ℕ) → calls_in_order (suc j) count (map (columns j (child n R w c st rest) totals) K) ≡ calls_in_order (suc j) count (map (columns (suc j) rest totals1) K)
     rest_are count =
         in_order_same (columns j (child n R w c st rest) totals) (columns (suc j) rest totals1) K count (suc j)
         (λ i le. each_in (λ v. calls_from i (columns j (child n R w c st rest) totals v) ≡ calls_from i (columns (suc j) rest totals1 v)) K
@@ -333,7 +333,7 @@ module _ (k : PlainKernel) (t : ℕ) (run : CallsRun (kernel_code k) t (ok k) (c
       let left = branch_shares k n st c in
       let more = child_shares k rest in
       let css = map (columns j (child n R w c st rest) totals) K in
-      let others = in_order (suc j) (count_threads rest) css in
+      let others = calls_in_order (suc j) (count_threads rest) css in
       let first = branch_calls_are n R w c st rest j totals h in
       let cost : cost_of (all_calls j (child n R w c st rest) totals) ≡ cost_then (cost_of (list_calls (now totals) left)) (cost_of others) =
       cost_append (calls_at j css) others ∙ ap (λ l. cost_then (cost_of l) (cost_of others)) first in
@@ -370,7 +370,7 @@ module _ (k : PlainKernel) (t : ℕ) (run : CallsRun (kernel_code k) t (ok k) (c
 
       cost : cost_of (all_calls 0 cs (no_totals (uses_of k t) o.copies)) ≡ join_cost k cs (uses_of k t) o.copies
       cost =
-          ap (λ css. cost_of (in_order 0 (count_threads cs) css))
+          ap (λ css. cost_of (calls_in_order 0 (count_threads cs) css))
           (map_same (columns 0 cs (no_totals (uses_of k t) o.copies)) (λ v. rest_calls (joins k v) None (taking_part (policy k v) (base v) (shares k v 0 cs))) same_calls K
           ∙ sym (calls_are k cs base (uses_of k t) o.copies (bases (uses_of k t) o.copies (asc t))))
 

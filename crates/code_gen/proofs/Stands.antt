@@ -6,12 +6,12 @@ use Rattle.forec_kernel.specs.declared.shape.VarCopy.{VarCopy}
 use Rattle.forec_kernel.specs.Shapes.{PlainKernel}
 use Rattle.forec_kernel.specs.Values.{call}
 use Rattle.forec_kernel.specs.Texts.{Status, Running, Paused, Ended, Gone, Trapped, Threads, Thread, is_running, uses_of, body_of}
-use Rattle.forec_kernel.specs.Steps.{Move, Finished, Halts, Moves, Traps, units_of, thread_after, thread_move, text_move, Woken, Wakes, Stays, text_if, status_of, waking_units}
+use Rattle.forec_kernel.specs.Steps.{Move, Finished, Halts, Moves, Traps, move_units, thread_after, thread_move, text_move, Woken, Wakes, Stays, text_if, status_of, waking_units}
 use Rattle.forec_kernel.specs.Steps as steps_of
 use Rattle.forec_kernel.specs.WellFormed.{WellFormed}
 use Rattle.forec_kernel.specs.Erased.{erased}
 use Rattle.forec_kernel.specs.Engine.{Seed, Reply, WasPaused, WasEnded, WasTrapped, WasOver, View, Going, AtFork, Pausing, Ending, Trapping, Exceeding}
-use Rattle.forec_kernel.specs.Solo.{fork_of, with_fork, Solo, At, TooLong, unmarked_copies, started_thread, woken_thread, own_text, waking, wake_own, solo_wake, seeds_for, view_at, solo_view, solo_units, rests, solo_step, all_replied, all_units, some_reply_over, joined_own, solo_join, kernel_engine}
+use Rattle.forec_kernel.specs.Solo.{fork_of, with_fork, Solo, At, TooLong, unmarked_copies, started_thread, woken_thread, own_text, waking_thread, wake_own, solo_wake, seeds_for, view_at, solo_view, solo_units, rests, solo_step, all_replied, all_units, some_reply_over, joined_own, solo_join, kernel_engine}
 use Rattle.forec_kernel.proofs.Keeps.{free_moves}
 use Rattle.forec_kernel.proofs.Same.{Behind, Simulates, gone, alone_like, alone_back}
 use Rattle.forec_kernel.proofs.SoloTotal.{solo_steady, solo_total}
@@ -21,7 +21,7 @@ use Rattle.thread_code.specs.Plain.{PlainBlock, PlainCode}
 use Rattle.thread_code.specs.Machine as machine
 use Rattle.thread_code.specs.Machine.{Own, Awaited, Machine, On, Waits, Merges, step, join, replied}
 use Rattle.thread_code.specs.Alone as code
-use Rattle.thread_code.specs.Alone.{block_of, started, woken, view_of, code_engine, Stands}
+use Rattle.thread_code.specs.Alone.{block_of, started_machine, woken_machine, view_of, code_engine, Stands}
 use Rattle.thread_code.proofs.Steady.{code_steady}
 use Rattle.code_gen.specs.Statements.{Outside, statement_code}
 use Rattle.code_gen.specs.Blocks.{thread_block, kernel_code}
@@ -45,7 +45,7 @@ module _ (c : PlainCode) (t : ℕ) (w : Awaited) (all : List Reply) (o : Own) (u
   replied_goes (WasTrapped place trap v ∷ rs) = refl
   replied_goes (WasOver ∷ rs) = replied_goes rs
 
-  replied_units : (rs : List Reply) → code.units_of (replied c t w all rs o u) ≡ u
+  replied_units : (rs : List Reply) → code.machine_units (replied c t w all rs o u) ≡ u
   replied_units [] = refl
   replied_units (WasPaused d v ∷ rs) = replied_units rs
   replied_units (WasEnded d v ∷ rs) = replied_units rs
@@ -85,7 +85,7 @@ module _ (k : PlainKernel) (t : ℕ) (fine : WellFormed k) (lt : t < length k.th
     going : (p : ℕ) (c : List ℕ) (f : Marks) → places.At k t s Outside th.text (Here p) q c f → m ≡ on k t s p (store th) c f u → LikeRunning th u woke m
     waiting : (d g : ℕ) (c : List ℕ) (f : Marks) → places.At k t s Outside th.text (At_fork d g) q c f → m ≡ machine_at k t s woke (leaf th.text) (At_fork d g) (store th) c f u → LikeRunning th u woke m
     -- the branches have replied
-    has_replies : (c : List ℕ) (f : Marks) → fork_of th.text ≡ None → view_of m ≡ Going → code.units_of m ≡ u →
+    has_replies : (c : List ℕ) (f : Marks) → fork_of th.text ≡ None → view_of m ≡ Going → code.machine_units m ≡ u →
         Follows k t run s Outside th.text q (store th) c f m u (text_move k [] (uses_of k t) th.words th.copies th.text) → LikeRunning th u woke m
 
   abbrev LikeStatus : Thread → ℕ → Bool → Machine → Status → Type 0
@@ -103,7 +103,7 @@ module _ (k : PlainKernel) (t : ℕ) (fine : WellFormed k) (lt : t < length k.th
   After x m = Behind Solo Machine (kernel_engine k t) (code_engine (kernel_code k) t) Like x m
 
   -- after a step of a text
-  stepped : (th : Thread) (u : ℕ) (c : List ℕ) (f : Marks) (m : Machine) (mv : Move) → th.number ≡ t → th.status ≡ Running → Follows k t run s Outside th.text q (store th) c f m u mv → After (At (thread_after th mv) (u + units_of mv) false) m
+  stepped : (th : Thread) (u : ℕ) (c : List ℕ) (f : Marks) (m : Machine) (mv : Move) → th.number ≡ t → th.status ≡ Running → Follows k t run s Outside th.text q (store th) c f m u mv → After (At (thread_after th mv) (u + move_units mv) false) m
   stepped th u c f m Finished is status g =
       let z : u ≡ u + 0 = omega arith in
       let h = comes_at C t (ap (machine.Ended (own (store th) f)) z) (comes_on C t g (one C t instruction.End (point s q [] th.words c) [] (own (store th) f) u end_at)) in
@@ -160,9 +160,9 @@ module _ (k : PlainKernel) (t : ℕ) (fine : WellFormed k) (lt : t < length k.th
       by_status Gone e l v = cc
       by_status (Trapped place trap) e l v = cc
 
-  starts : (args values : List ℤ) → After (At (started_thread k t args values) 0 false) (started (kernel_code k) (block_of (kernel_code k) t) args values)
+  starts : (args values : List ℤ) → After (At (started_thread k t args values) 0 false) (started_machine (kernel_code k) (block_of (kernel_code k) t) args values)
   starts args values =
-      subst (λ (b : PlainBlock). After (At (started_thread k t args values) 0 false) (started (kernel_code k) b args values)) (sym block_is)
+      subst (λ (b : PlainBlock). After (At (started_thread k t args values) 0 false) (started_machine (kernel_code k) b args values)) (sym block_is)
       (record {
         count = 0;
         t' = _;
@@ -203,16 +203,16 @@ module _ (k : PlainKernel) (t : ℕ) (fine : WellFormed k) (lt : t < length k.th
         like = (is, waiting d e g.c' g.f' x refl);
       }
 
-  wakes : (values : List ℤ) (copies : List VarCopy) (x : Solo) (m : Machine) → Like x m → solo_view k x ≡ Pausing copies → After (solo_wake k values x) (woken values m)
+  wakes : (values : List ℤ) (copies : List VarCopy) (x : Solo) (m : Machine) → Like x m → solo_view k x ≡ Pausing copies → After (solo_wake k values x) (woken_machine values m)
   wakes values copies (TooLong u) m h v = cc
   wakes values copies (At th u woke) m h v = by_status th.status h.1 v
     where
-      from_pause : (w : ℕ) (c : List ℕ) (f : Marks) → WakeAt k t s Outside th.text w q f.live → m ≡ machine.Paused (point s w [] th.words c) (own (store th) f) u → After (wake_own k values (own_text th)) (woken values m)
+      from_pause : (w : ℕ) (c : List ℕ) (f : Marks) → WakeAt k t s Outside th.text w q f.live → m ≡ machine.Paused (point s w [] th.words c) (own (store th) f) u → After (wake_own k values (own_text th)) (woken_machine values m)
       from_pause w c f x e =
           let new : Store = record { words = th.words; copies = unmarked_copies values } in
           let z : w + 0 ≡ w = omega arith in
-          let at : woken values m ≡ on k t s w new c f 0 = ap (woken values) e in
-          let W = waking k values (own_text th) in
+          let at : woken_machine values m ≡ on k t s w new c f 0 = ap (woken_machine values) e in
+          let W = waking_thread k values (own_text th) in
           let g = wake_runs k t run s th.text Outside w q new c f 0 x in
           let same : FollowsWoken k t run s Outside q new c f (on k t s w new c f 0) 0 W =
           subst (λ n. FollowsWoken k t run s Outside q new c f (on k t s w new c f 0) 0 (waking_of n)) (sym h.0) (subst (λ p. FollowsWoken k t run s Outside q new c f (on k t s p new c f 0) 0 (waking_of t)) z g) in
@@ -221,10 +221,10 @@ module _ (k : PlainKernel) (t : ℕ) (fine : WellFormed k) (lt : t < length k.th
           waking_of : ℕ → Woken
           waking_of n = steps_of.woken k (uses_of k n) th.words (unmarked_copies values) (erased th.text)
 
-      by_status : (x : Status) → LikeStatus th u woke m x → view_at k woke th.copies x (fork_of th.text) ≡ Pausing copies → After (wake_own k values (own_text th)) (woken values m)
+      by_status : (x : Status) → LikeStatus th u woke m x → view_at k woke th.copies x (fork_of th.text) ≡ Pausing copies → After (wake_own k values (own_text th)) (woken_machine values m)
       by_status Running l v = by_fork (fork_of th.text) v
         where
-          by_fork : (x : Option Threads) → view_at k woke th.copies Running x ≡ Pausing copies → After (wake_own k values (own_text th)) (woken values m)
+          by_fork : (x : Option Threads) → view_at k woke th.copies Running x ≡ Pausing copies → After (wake_own k values (own_text th)) (woken_machine values m)
           by_fork None v = cc
           by_fork (Some cs) v = cc
       by_status Paused l v = from_pause l.0 l.1 l.2 l.3 l.4
@@ -303,21 +303,21 @@ module _ (k : PlainKernel) (t : ℕ) (fine : WellFormed k) (lt : t < length k.th
       by_status Gone l = absurd l
       by_status (Trapped place trap) l = sym (ap view_of l)
 
-  units : (x : Solo) (m : Machine) → Like x m → solo_units x ≡ code.units_of m
-  units (TooLong u) m h = sym (ap code.units_of h)
+  units : (x : Solo) (m : Machine) → Like x m → solo_units x ≡ code.machine_units m
+  units (TooLong u) m h = sym (ap code.machine_units h)
   units (At th u woke) m h = by_status th.status h.1
     where
-      by_running : LikeRunning th u woke m → u ≡ code.units_of m
-      by_running (going p c f x e) = sym (ap code.units_of e)
-      by_running (waiting d g c f x e) = sym (ap code.units_of e)
+      by_running : LikeRunning th u woke m → u ≡ code.machine_units m
+      by_running (going p c f x e) = sym (ap code.machine_units e)
+      by_running (waiting d g c f x e) = sym (ap code.machine_units e)
       by_running (has_replies c f free e n g) = sym n
 
-      by_status : (x : Status) → LikeStatus th u woke m x → u ≡ code.units_of m
+      by_status : (x : Status) → LikeStatus th u woke m x → u ≡ code.machine_units m
       by_status Running l = by_running l
-      by_status Paused l = sym (ap code.units_of l.4)
-      by_status Ended l = sym (ap code.units_of l.1)
+      by_status Paused l = sym (ap code.machine_units l.4)
+      by_status Ended l = sym (ap code.machine_units l.1)
       by_status Gone l = absurd l
-      by_status (Trapped place trap) l = sym (ap code.units_of l)
+      by_status (Trapped place trap) l = sym (ap code.machine_units l)
 
   simulates : Simulates Solo Machine (kernel_engine k t) (code_engine (kernel_code k) t) Like
   simulates = record { starts = starts; steps = steps; wakes = wakes; joins = joins; views = views; units = units }

@@ -10,9 +10,9 @@ use Rattle.forec_kernel.specs.declared.terms.Spot.TheVariants as spot
 use Rattle.forec_kernel.specs.Terms.{Expr, Branch, Stmt, Nop, Set, SetAt, PutAt, Clear, Seq, If, While, Pause, Par, Enter, Return}
 use Rattle.forec_kernel.specs.Shapes.{PlainKernel}
 use Rattle.forec_kernel.specs.Values.{Value, Gives, Raises, setting, Sight, call, cleared, index_in}
-use Rattle.forec_kernel.specs.Texts.{Loop, After, Go_on, Again, Text, Done, Run, Then, Turning, Resting, Fork, Held, Watch, Last, text_of, texts_of, after_text, uses_of, put_copy}
+use Rattle.forec_kernel.specs.Texts.{Loop, After, Go_on, Again, RunningText, Done, Run, Then, Turning, Resting, Fork, Held, Watch, Last, text_of, texts_of, after_text, uses_of, put_copy}
 use Rattle.forec_kernel.specs.WellFormed.{distinct, threads_in}
-use Rattle.forec_kernel.specs.Steps.{Move, Finished, Halts, Moves, Traps, more_move, move_with, Owner, evaluated, assigned, assigned_at, shared_at, turned, entered, Arguments, Ready, Refused, arguments, started, forked, statement_move, loop_move, move_before, move_watched, move_last, text_move}
+use Rattle.forec_kernel.specs.Steps.{Move, Finished, Halts, Moves, Traps, more_move, move_with, Owner, evaluated, assigned, assigned_at, shared_at, turned_loop, entered_abort, Arguments, Ready, Refused, arguments, started, forked, statement_move, loop_move, move_before, move_watched, move_last, text_move}
 use Rattle.forec_kernel.specs.Solo.{seeds_for}
 use Rattle.thread_code.specs.declared.instruction.Instruction.{Instruction}
 use Rattle.thread_code.specs.declared.instruction.Instruction.TheVariants as instruction
@@ -37,7 +37,7 @@ module _ (k : PlainKernel) (t : ℕ) (run : CallsRun (kernel_code k) t (ok k) (c
   seen st e = evaluated o st.words st.copies e
 
   -- the machine does what a step of the text does
-  abbrev pub Follows : Around → Text → ℕ → Store → List ℕ → Marks → Machine → ℕ → Move → Type 0
+  abbrev pub Follows : Around → RunningText → ℕ → Store → List ℕ → Marks → Machine → ℕ → Move → Type 0
   Follows a R q st c f m u Finished = Comes (kernel_code k) t m (on k t s q st c f u)
   Follows a R q st c f m u Halts =
       (p : ℕ) × (w : ℕ) × Comes (kernel_code k) t m (on k t s p st c f u) × HasAt s p (checks a ++ instruction.Pause w ∷ []) × WakeAt k t s a R w q f.live
@@ -51,19 +51,19 @@ module _ (k : PlainKernel) (t : ℕ) (run : CallsRun (kernel_code k) t (ok k) (c
   Advances (Moves R words copies v) = Unit {0}
   Advances (Traps place trap v) = Unit {0}
 
-  pub follows_from : (a : Around) (R : Text) (q : ℕ) (st : Store) (c : List ℕ) (f : Marks) (m m1 : Machine) (u : ℕ) (mv : Move) → Comes (kernel_code k) t m m1 → Follows a R q st c f m1 u mv → Follows a R q st c f m u mv
+  pub follows_from : (a : Around) (R : RunningText) (q : ℕ) (st : Store) (c : List ℕ) (f : Marks) (m m1 : Machine) (u : ℕ) (mv : Move) → Comes (kernel_code k) t m m1 → Follows a R q st c f m1 u mv → Follows a R q st c f m u mv
   follows_from a R q st c f m m1 u Finished h g = comes_on (kernel_code k) t h g
   follows_from a R q st c f m m1 u Halts h g = (g.0, g.1, comes_on (kernel_code k) t h g.2, g.3, g.4)
   follows_from a R q st c f m m1 u (Moves R' words copies v) h g = goes_from k t s h g
   follows_from a R q st c f m m1 u (Traps place trap v) h g = comes_on (kernel_code k) t h g
 
-  follows_after : (a : Around) (R : Text) (q : ℕ) (st : Store) (c : List ℕ) (f : Marks) (m : Machine) (v u : ℕ) (mv : Move) → Advances mv → Follows a R q st c f m (u + v) mv → Follows a R q st c f m u (more_move v mv)
+  follows_after : (a : Around) (R : RunningText) (q : ℕ) (st : Store) (c : List ℕ) (f : Marks) (m : Machine) (v u : ℕ) (mv : Move) → Advances mv → Follows a R q st c f m (u + v) mv → Follows a R q st c f m u (more_move v mv)
   follows_after a R q st c f m v u Finished ok g = absurd ok
   follows_after a R q st c f m v u Halts ok g = absurd ok
   follows_after a R q st c f m v u (Moves R' words copies w) ok g = let e : u + v + w ≡ u + (v + w) = omega arith in goes_at k t s e g
   follows_after a R q st c f m v u (Traps place trap w) ok g = let e : u + v + w ≡ u + (v + w) = omega arith in comes_at (kernel_code k) t (ap (Trapped place trap) e) g
 
-  follows_with : (a : Around) (R : Text) (q : ℕ) (st : Store) (c : List ℕ) (f : Marks) (m : Machine) (u : ℕ) (mid : ℤ → ℕ → Machine) (r : Value) (go : ℤ → Move) → ((n : ℤ) → Advances (go n)) → Yields (kernel_code k) t m u mid r → ((n : ℤ) (w : ℕ) → Follows a R q st c f (mid n w) w (go n)) → Follows a R q st c f m u (move_with r go)
+  follows_with : (a : Around) (R : RunningText) (q : ℕ) (st : Store) (c : List ℕ) (f : Marks) (m : Machine) (u : ℕ) (mid : ℤ → ℕ → Machine) (r : Value) (go : ℤ → Move) → ((n : ℤ) → Advances (go n)) → Yields (kernel_code k) t m u mid r → ((n : ℤ) (w : ℕ) → Follows a R q st c f (mid n w) w (go n)) → Follows a R q st c f m u (move_with r go)
   follows_with a R q st c f m u mid (Gives n v) go ok g h =
       follows_after a R q st c f m v u (go n) (ok n) (follows_from a R q st c f m (mid n (u + v)) (u + v) (go n) g (h n (u + v)))
   follows_with a R q st c f m u mid (Raises place trap v) go ok g h = g
@@ -107,7 +107,7 @@ module _ (k : PlainKernel) (t : ℕ) (run : CallsRun (kernel_code k) t (ok k) (c
       more v (Traps place trap w) h = tt
   advances_with (Raises place trap v) go h = tt
 
-  stored_runs : (i : Option ℕ) (n : ℤ) (place : Place) (x : ℕ) (a : Around) (R : Text) (j q : ℕ) (st : Store) (c : List ℕ) (f : Marks) (m : Machine) (u : ℕ) → Ends k t s (j + 1) q →
+  stored_runs : (i : Option ℕ) (n : ℤ) (place : Place) (x : ℕ) (a : Around) (R : RunningText) (j q : ℕ) (st : Store) (c : List ℕ) (f : Marks) (m : Machine) (u : ℕ) → Ends k t s (j + 1) q →
       Comes (kernel_code k) t m (unless_none i place Index (u + 1) (λ b. On (point s (j + 1) [] (slice_set st.words (x + b) n) c) [] (own st f) (u + 1))) →
       Follows a R q st c f m u (assigned_at st.words st.copies x i n place)
   stored_runs None n place x a R j q st c f m u ends h = h
@@ -117,7 +117,7 @@ module _ (k : PlainKernel) (t : ℕ) (run : CallsRun (kernel_code k) t (ok k) (c
   advances_shared words copies v None n place = tt
   advances_shared words copies v (Some i) n place = tt
 
-  shared_runs : (i : Option ℕ) (n : ℤ) (place : Place) (v : ℕ) (a : Around) (R : Text) (j q : ℕ) (st : Store) (c : List ℕ) (f : Marks) (m : Machine) (u : ℕ) → Ends k t s (j + 1) q →
+  shared_runs : (i : Option ℕ) (n : ℤ) (place : Place) (v : ℕ) (a : Around) (R : RunningText) (j q : ℕ) (st : Store) (c : List ℕ) (f : Marks) (m : Machine) (u : ℕ) → Ends k t s (j + 1) q →
       Comes (kernel_code k) t m (unless_none i place Index (u + 1) (λ b. On (point s (j + 1) [] st.words c) [] (put_value (uses_of k t) (v + b) n (own st f)) (u + 1))) →
       Follows a R q st c f m u (shared_at o st.words st.copies v i n place)
   shared_runs None n place v a R j q st c f m u ends h = h
@@ -125,7 +125,7 @@ module _ (k : PlainKernel) (t : ℕ) (run : CallsRun (kernel_code k) t (ok k) (c
       goes k t s false a Done (j + 1) q (record { words = st.words; copies = put_copy (uses_of k t) st.copies (v + b) (record { value = n; modified = true }) }) c f m (u + 1) ends h
 
   -- an index and a value in front of the instruction that sets an element
-  element_runs : (i e : Expr) (last : Instruction) (go : ℤ → ℤ → Move) (a : Around) (R : Text) (p q : ℕ) (st : Store) (c : List ℕ) (f : Marks) (u : ℕ) → Fits (kernel_code k) (ok k) i → Fits (kernel_code k) (ok k) e →
+  element_runs : (i e : Expr) (last : Instruction) (go : ℤ → ℤ → Move) (a : Around) (R : RunningText) (p q : ℕ) (st : Store) (c : List ℕ) (f : Marks) (u : ℕ) → Fits (kernel_code k) (ok k) i → Fits (kernel_code k) (ok k) e →
       HasAt s p (expression_code p i ++ (expression_code (p + length (expression_code p i)) e ++ last ∷ [])) → Ends k t s (p + length (expression_code p i ++ (expression_code (p + length (expression_code p i)) e ++ last ∷ []))) q → ((b v : ℤ) → Advances (go b v)) →
       ((j : ℕ) (b v : ℤ) (m : Machine) (w : ℕ) → Ends k t s (j + 1) q → Comes (kernel_code k) t m (act (kernel_code k) t (Some last) (point s j (v ∷ b ∷ []) st.words c) [] (own st f) w) → Follows a R q st c f m w (go b v)) →
       Follows a R q st c f (on k t s p st c f u) u (move_with (seen st i) (λ b. move_with (seen st e) (go b)))
@@ -325,7 +325,7 @@ module _ (k : PlainKernel) (t : ℕ) (run : CallsRun (kernel_code k) t (ok k) (c
       let ce = expression_code p e in
       let pre = has_front s p (ce ++ guard false (weaks a) y ∷ []) _ h.has in
       let fit = h.fits in
-      follows_with a (Run (Enter false true e x)) q st c f (on k t s p st c f u) u (λ n w. On (point s (p + length ce) (n ∷ []) st.words c) [] (own st f) w) (seen st e) (λ n. Moves (entered false e x n) st.words st.copies 1) (λ n. tt)
+      follows_with a (Run (Enter false true e x)) q st c f (on k t s p st c f u) u (λ n w. On (point s (p + length ce) (n ∷ []) st.words c) [] (own st f) w) (seen st e) (λ n. Moves (entered_abort false e x n) st.words st.copies 1) (λ n. tt)
       (test_runs e p [] st c f u fit.0 (has_front s p ce _ pre))
       (λ n w. entered_strong (is_zero n) e x a (body_start false true e a p) y q st c f _ (w + 1) b.0 b.1 fit.0
       (choose_at (is_zero n) _ _ y st c f _ (w + 1) (test_length p e (guard false (weaks a) 0)) (one (kernel_code k) t (instruction.NonZero y) (point s (p + length ce) (n ∷ []) st.words c) [] (own st f) w (has_back s p ce _ pre).0)))
@@ -335,7 +335,7 @@ module _ (k : PlainKernel) (t : ℕ) (run : CallsRun (kernel_code k) t (ok k) (c
       let ce = expression_code p e in
       let pre = has_front s p (ce ++ guard true (weaks a) y ∷ []) _ h.has in
       let fit = h.fits in
-      follows_with a (Run (Enter true true e x)) q st c f (on k t s p st c f u) u (λ n w. On (point s (p + length ce) (n ∷ []) st.words c) [] (own st f) w) (seen st e) (λ n. Moves (entered true e x n) st.words st.copies 1) (λ n. tt)
+      follows_with a (Run (Enter true true e x)) q st c f (on k t s p st c f u) u (λ n w. On (point s (p + length ce) (n ∷ []) st.words c) [] (own st f) w) (seen st e) (λ n. Moves (entered_abort true e x n) st.words st.copies 1) (λ n. tt)
       (test_runs e p [] st c f u fit.0 (has_front s p ce _ pre))
       (λ n w. entered_weak (is_zero n) e x a (body_start true true e a p) y q st c f _ (w + 1) b.0 b.1 fit.0
       (comes_on (kernel_code k) t (one (kernel_code k) t (instruction.Keep (weaks a)) (point s (p + length ce) (n ∷ []) st.words c) [] (own st f) w (has_back s p ce _ pre).0)
@@ -370,7 +370,7 @@ module _ (k : PlainKernel) (t : ℕ) (run : CallsRun (kernel_code k) t (ok k) (c
         };
       }
 
-  par_starts : (bs : List Branch) (a : Around) (R : Text) (r q : ℕ) (st : Store) (c : List ℕ) (f : Marks) (m : Machine) (u : ℕ) (args : Arguments) → ParFits k bs → Fitting k bs args → HasAt s r (fork_code (par_number k.shape.threads bs) r a) → Ends k t s (r + length (fork_code (par_number k.shape.threads bs) r a)) q →
+  par_starts : (bs : List Branch) (a : Around) (R : RunningText) (r q : ℕ) (st : Store) (c : List ℕ) (f : Marks) (m : Machine) (u : ℕ) (args : Arguments) → ParFits k bs → Fitting k bs args → HasAt s r (fork_code (par_number k.shape.threads bs) r a) → Ends k t s (r + length (fork_code (par_number k.shape.threads bs) r a)) q →
       YieldsLists k t run s st.words c (own st f) m u (λ lists w. On (point s r (push_all (joined lists) []) st.words c) [] (own st f) w) args → Follows a R q st c f m u (forked o st.words st.copies bs args)
   par_starts bs a R r q st c f m u (Refused place trap v) fit fits has end h = h
   par_starts bs a R r q st c f m u (Ready lists v) fit fits has end h =
@@ -433,7 +433,7 @@ module _ (k : PlainKernel) (t : ℕ) (run : CallsRun (kernel_code k) t (ok k) (c
 
   -- ---- loops in progress
 
-  advances_test : (b : Bool) (loop : Loop) (words : List ℤ) (copies : List VarCopy) (left : Option ℕ) → Advances (elim b [ true ↦ Moves Done words copies 1 | false ↦ turned loop left words copies ])
+  advances_test : (b : Bool) (loop : Loop) (words : List ℤ) (copies : List VarCopy) (left : Option ℕ) → Advances (elim b [ true ↦ Moves Done words copies 1 | false ↦ turned_loop loop left words copies ])
   advances_test true loop words copies left = tt
   advances_test false loop words copies None = tt
   advances_test false loop words copies (Some zero) = tt
@@ -441,7 +441,7 @@ module _ (k : PlainKernel) (t : ℕ) (run : CallsRun (kernel_code k) t (ok k) (c
 
   turned_runs : (n m : Option ℕ) (e : Expr) (x : Stmt) (place : Place) (a : Around) (p q : ℕ) (st : Store) (c : List ℕ) (f : Marks) (mach : Machine) (w : ℕ) →
       LoopAt k t s a (record { test = e; bound = n; left = m; body = x; place = place }) p q → Left n m (loops a) c → Comes (kernel_code k) t mach (on k t s (p + length (expression_code p e) + 1) st c f (w + 1)) →
-      Follows a (Turning (record { test = e; bound = n; left = m; body = x; place = place })) q st c f mach w (turned (record { test = e; bound = n; left = m; body = x; place = place }) m st.words st.copies)
+      Follows a (Turning (record { test = e; bound = n; left = m; body = x; place = place })) q st c f mach w (turned_loop (record { test = e; bound = n; left = m; body = x; place = place }) m st.words st.copies)
   turned_runs None None e x place a p q st c f mach w h left g =
       let at = p + length (expression_code p e) in
       let b = at + 1 + 0 in
@@ -480,7 +480,7 @@ module _ (k : PlainKernel) (t : ℕ) (run : CallsRun (kernel_code k) t (ok k) (c
 
   tested : (b : Bool) (n m : Option ℕ) (e : Expr) (x : Stmt) (place : Place) (a : Around) (p y q : ℕ) (st : Store) (c : List ℕ) (f : Marks) (mach : Machine) (w : ℕ) →
       LoopAt k t s a (record { test = e; bound = n; left = m; body = x; place = place }) p q → Left n m (loops a) c → Ends k t s y q → Comes (kernel_code k) t mach (on k t s (cond b y (p + length (expression_code p e) + 1)) st c f (w + 1)) →
-      Follows a (Turning (record { test = e; bound = n; left = m; body = x; place = place })) q st c f mach w (elim b [ true ↦ Moves Done st.words st.copies 1 | false ↦ turned (record { test = e; bound = n; left = m; body = x; place = place }) m st.words st.copies ])
+      Follows a (Turning (record { test = e; bound = n; left = m; body = x; place = place })) q st c f mach w (elim b [ true ↦ Moves Done st.words st.copies 1 | false ↦ turned_loop (record { test = e; bound = n; left = m; body = x; place = place }) m st.words st.copies ])
   tested true n m e x place a p y q st c f mach w h left ends g = goes k t s false a Done y q st c f mach (w + 1) ends g
   tested false n m e x place a p y q st c f mach w h left ends g = turned_runs n m e x place a p q st c f mach w h left g
 
@@ -490,7 +490,7 @@ module _ (k : PlainKernel) (t : ℕ) (run : CallsRun (kernel_code k) t (ok k) (c
       let at = p + length (expression_code p e) in
       let b = at + 1 + length (turn_code loop.bound (loops a) loop.place) in
       let y = b + length (statement_code k.shape.threads (inner loop.bound a) b loop.body) + 1 in
-      follows_with a (Turning loop) q st c f (on k t s p st c f u) u (λ n w. On (point s at (n ∷ []) st.words c) [] (own st f) w) (seen st e) (λ n. elim (is_zero n) [ true ↦ Moves Done st.words st.copies 1 | false ↦ turned loop loop.left st.words st.copies ])
+      follows_with a (Turning loop) q st c f (on k t s p st c f u) u (λ n w. On (point s at (n ∷ []) st.words c) [] (own st f) w) (seen st e) (λ n. elim (is_zero n) [ true ↦ Moves Done st.words st.copies 1 | false ↦ turned_loop loop loop.left st.words st.copies ])
       (λ n. advances_test (is_zero n) loop st.words st.copies loop.left)
       (test_runs e p [] st c f u h.fits (has_front s p (expression_code p e) _ h.has))
       (λ n w. tested (is_zero n) loop.bound loop.left e loop.body loop.place a p y q st c f _ w h left (h.ends y refl)
@@ -511,7 +511,7 @@ module _ (k : PlainKernel) (t : ℕ) (run : CallsRun (kernel_code k) t (ok k) (c
       pick None = refl
       pick (Some n) = refl
 
-  pub then_runs : (b : After) (a : Around) (R : Text) (m q : ℕ) (st : Store) (c : List ℕ) (f : Marks) (mach : Machine) (u : ℕ) (mv : Move) → BehindAt k t s a b m q → Turns_left a b c → Follows (inside a b) R m st c f mach u mv →
+  pub then_runs : (b : After) (a : Around) (R : RunningText) (m q : ℕ) (st : Store) (c : List ℕ) (f : Marks) (mach : Machine) (u : ℕ) (mv : Move) → BehindAt k t s a b m q → Turns_left a b c → Follows (inside a b) R m st c f mach u mv →
       Follows a (Then R b) q st c f mach u (move_before b st.words st.copies mv)
   then_runs b a R m q st c f mach u Finished h l g = behind_goes b a m q st c f mach u h l g
   then_runs b a R m q st c f mach u Halts h l g =
@@ -519,7 +519,7 @@ module _ (k : PlainKernel) (t : ℕ) (run : CallsRun (kernel_code k) t (ok k) (c
   then_runs b a R m q st c f mach u (Moves R' words copies v) h l g = goes_then k t s false b a R' m q (record { words = words; copies = copies }) c f mach (u + v) h l g
   then_runs b a R m q st c f mach u (Traps place trap v) h l g = g
 
-  pub watch_runs : (weak : Bool) (e : Expr) (a : Around) (R : Text) (x q : ℕ) (st : Store) (c : List ℕ) (f : Marks) (mach : Machine) (u : ℕ) (mv : Move) → Ends k t s x q → Fits (kernel_code k) (ok k) e → Unset weak (weaks a) f → Follows (InAbort weak e x a) R x st c f mach u mv →
+  pub watch_runs : (weak : Bool) (e : Expr) (a : Around) (R : RunningText) (x q : ℕ) (st : Store) (c : List ℕ) (f : Marks) (mach : Machine) (u : ℕ) (mv : Move) → Ends k t s x q → Fits (kernel_code k) (ok k) e → Unset weak (weaks a) f → Follows (InAbort weak e x a) R x st c f mach u mv →
       Follows a (Watch weak e R) q st c f mach u (move_watched weak e st.words st.copies mv)
   watch_runs weak e a R x q st c f mach u Finished ends fit unset g = goes k t s false a Done x q st c f mach (u + 0) ends (none_more k t s x st c f mach u g)
   watch_runs false e a R x q st c f mach u Halts ends fit unset g = (g.0, g.1, g.2, g.3, (x, g.4, ends, fit))
@@ -530,7 +530,7 @@ module _ (k : PlainKernel) (t : ℕ) (run : CallsRun (kernel_code k) t (ok k) (c
   watch_runs weak e a R x q st c f mach u (Moves R' words copies v) ends fit unset g = goes_watch k t s false weak e a R' x q (record { words = words; copies = copies }) c f mach (u + v) ends fit unset g
   watch_runs weak e a R x q st c f mach u (Traps place trap v) ends fit unset g = g
 
-  pub last_runs : (e : Expr) (a : Around) (R : Text) (x q : ℕ) (st : Store) (c : List ℕ) (f : Marks) (mach : Machine) (u : ℕ) (mv : Move) → Ends k t s x q → get_or f.flags (weaks a) false ≡ true → Follows (InAbort true e x a) R x st c f mach u mv →
+  pub last_runs : (e : Expr) (a : Around) (R : RunningText) (x q : ℕ) (st : Store) (c : List ℕ) (f : Marks) (mach : Machine) (u : ℕ) (mv : Move) → Ends k t s x q → get_or f.flags (weaks a) false ≡ true → Follows (InAbort true e x a) R x st c f mach u mv →
       Follows a (Last R) q st c f mach u (move_last st.words st.copies mv)
   last_runs e a R x q st c f mach u Finished ends set g = goes k t s false a Done x q st c f mach (u + 0) ends (none_more k t s x st c f mach u g)
   last_runs e a R x q st c f mach u Halts ends set g =
@@ -541,7 +541,7 @@ module _ (k : PlainKernel) (t : ℕ) (run : CallsRun (kernel_code k) t (ok k) (c
   last_runs e a R x q st c f mach u (Traps place trap v) ends set g = g
 
   -- the machine does each step of a text
-  pub text_runs : (R : Text) (a : Around) (p q : ℕ) (st : Store) (c : List ℕ) (f : Marks) (u : ℕ) → At k t s a R (Here p) q c f → Follows a R q st c f (on k t s p st c f u) u (text_move k [] (uses_of k t) st.words st.copies R)
+  pub text_runs : (R : RunningText) (a : Around) (p q : ℕ) (st : Store) (c : List ℕ) (f : Marks) (u : ℕ) → At k t s a R (Here p) q c f → Follows a R q st c f (on k t s p st c f u) u (text_move k [] (uses_of k t) st.words st.copies R)
   text_runs Done a p q st c f u h = h.by st c f u
   text_runs (Run x) a p q st c f u h = statement_runs x a p q st c f u h
   text_runs (Then R b) a p q st c f u h = then_runs b a R h.0 q st c f _ u (text_move k [] (uses_of k t) st.words st.copies R) h.2 h.3 (text_runs R (inside a b) p h.0 st c f u h.1)

@@ -7,10 +7,10 @@ use Rattle.forec_kernel.specs.Shapes.{PlainKernel}
 use Rattle.forec_kernel.specs.Values.{function_words}
 use Rattle.forec_kernel.specs.Texts.{params_in, words_in, body_of}
 use Rattle.forec_kernel.specs.Combining.{contains}
-use Rattle.forec_kernel.specs.WellFormed.{Scope, FineStmt, FineStmts, FinePar, threads_in, pars_of, pars_in, function_body, WellFormed}
+use Rattle.forec_kernel.specs.WellFormed.{TermScope, FineStmt, FineStmts, FinePar, threads_in, pars_of, pars_in, function_body, WellFormed}
 use Rattle.thread_code.specs.declared.instruction.Instruction.TheVariants as instruction
 use Rattle.thread_code.specs.Plain.{PlainBlock}
-use Rattle.thread_code.specs.Valid.{Leads, arguments_of, function_arguments, IsBlock, IsSound, thread_scope, function_scope, deep_within, IsValidCode}
+use Rattle.thread_code.specs.Valid.{HasDepth, arguments_of, function_arguments, IsBlock, IsSound, thread_scope, function_scope, deep_within, IsValidCode}
 use Rattle.thread_code.proofs.AllFine.{valid_all, fine_join}
 use Rattle.thread_code.proofs.KernelShape.{shape_is_fine}
 use Rattle.code_gen.specs.Statements.{Outside, statement_code}
@@ -68,7 +68,7 @@ module _ (k : PlainKernel) (t : ℕ) (b : PlainBlock) (depths : List ℕ) where
 
 -- ---- int functions have no pars and no flags
 
-module _ (k : PlainKernel) (z : Scope) (b : PlainBlock) (depths : List ℕ) where
+module _ (k : PlainKernel) (z : TermScope) (b : PlainBlock) (depths : List ℕ) where
   mutual
     no_pars : (x : Stmt) → FineStmt true z x → ParsFine k None b depths x
     no_pars Nop h = tt
@@ -89,7 +89,7 @@ module _ (k : PlainKernel) (z : Scope) (b : PlainBlock) (depths : List ℕ) wher
     none_have_pars (more_stmts x rest) h = (no_pars x h.0, none_have_pars rest h.1)
 
 mutual
-  no_flags : (z : Scope) (x : Stmt) → FineStmt true z x → flags_in x ≡ 0
+  no_flags : (z : TermScope) (x : Stmt) → FineStmt true z x → flags_in x ≡ 0
   no_flags z Nop h = refl
   no_flags z (Set to e) h = refl
   no_flags z (SetAt x n i e place) h = refl
@@ -103,7 +103,7 @@ mutual
   no_flags z (Enter weak immediate e body) h = let no : false ≡ true = h.0 in cc
   no_flags z (Return e) h = refl
 
-  none_have_flags : (z : Scope) (list : Stmts) → FineStmts true z list → flags_of list ≡ 0
+  none_have_flags : (z : TermScope) (list : Stmts) → FineStmts true z list → flags_of list ≡ 0
   none_have_flags z no_stmts h = refl
   none_have_flags z (more_stmts x rest) h = omega (arith, no_flags z x h.0, none_have_flags z rest h.1)
 
@@ -141,7 +141,7 @@ module _ (k : PlainKernel) (fine : WellFormed k) where
   function_sound f lt =
       let function = fine.each_function f lt in
       let x = function_body k f in
-      let z : Scope = record { kernel = k; words = function_words k.shape.functions f; uses = [] } in
+      let z : TermScope = record { kernel = k; words = function_words k.shape.functions f; uses = [] } in
       let b = function_block k f x in
       let c = statement_code k.shape.threads Outside 0 x in
       let tail = instruction.Quiet (pos 0) ∷ instruction.Return ∷ [] in
@@ -159,7 +159,7 @@ module _ (k : PlainKernel) (fine : WellFormed k) where
         valid = valid_all (function_scope (kernel_code k)) b depths (omega (arith, long, length-append sd (0 ∷ 1 ∷ []), length-append c tail)) (lead_zero sd (1 ∷ []) (statement_first x [] []))
             (fine_join (function_scope (kernel_code k)) b depths 0 c tail sd (0 ∷ 1 ∷ [])
             (statement_fine k None b depths x Outside 0 true [] [] tt function.body (no_pars k z b depths x function.body) tt lo fl refl refl (has_front b.steps 0 c _ code) (has_front depths 0 sd _ has) end.0)
-            (subst (λ n. Leads depths (0 + length c + 1) n) one end.1.0, ((refl, omega arith), tt)));
+            (subst (λ n. HasDepth depths (0 + length c + 1) n) one end.1.0, ((refl, omega arith), tt)));
       }
 
   block_is : (a b : PlainBlock) → Some a ≡ Some b → a ≡ b

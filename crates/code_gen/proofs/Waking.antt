@@ -7,7 +7,7 @@ use Rattle.forec_kernel.specs.declared.shape.VarCopy.{VarCopy}
 use Rattle.forec_kernel.specs.Terms.{Expr, Stmt}
 use Rattle.forec_kernel.specs.Shapes.{PlainKernel}
 use Rattle.forec_kernel.specs.Values.{Value, Gives, Raises, call}
-use Rattle.forec_kernel.specs.Texts.{Loop, After, Go_on, Again, Running, Paused, Ended, Gone, Trapped, Text, Done, Run, Then, Turning, Resting, Fork, Held, Watch, Last, Threads, no_threads, child, some_running, uses_of}
+use Rattle.forec_kernel.specs.Texts.{Loop, After, Go_on, Again, Running, Paused, Ended, Gone, Trapped, RunningText, Done, Run, Then, Turning, Resting, Fork, Held, Watch, Last, Threads, no_threads, child, some_running, uses_of}
 use Rattle.forec_kernel.specs.Steps.{Owner, evaluated, Woken, Wakes, Stays, more_woken, woken_in, woken_with, refilled, watched_on, woken, woken_children}
 use Rattle.forec_kernel.specs.Erased.{erased, erased_threads}
 use Rattle.forec_kernel.specs.WellFormed.{distinct}
@@ -119,7 +119,7 @@ module _ (k : PlainKernel) (t : ℕ) (run : CallsRun (kernel_code k) t (ok k) (c
 
   -- ---- what the prologue has
 
-  pub prologue_stands : (R : Text) (a : Around) (w q : ℕ) (live : List Bool) → WakeAt k t s a R w q live → HasAt s w (prologue w a)
+  pub prologue_stands : (R : RunningText) (a : Around) (w q : ℕ) (live : List Bool) → WakeAt k t s a R w q live → HasAt s w (prologue w a)
   prologue_stands Done a w q live h = absurd h
   prologue_stands (Run x) a w q live h = absurd h
   prologue_stands (Then R (Go_on list)) a w q live h = prologue_stands R a w h.0 live h.1
@@ -220,7 +220,7 @@ module _ (k : PlainKernel) (t : ℕ) (run : CallsRun (kernel_code k) t (ok k) (c
       omega (arith, length-append outer (ce ++ g), length-append ce g)
 
   -- the machine does the waking of a text
-  pub wake_runs : (R : Text) (a : Around) (w q : ℕ) (st : Store) (c : List ℕ) (f : Marks) (u : ℕ) → WakeAt k t s a R w q f.live → FollowsWoken a q st c f (on k t s (w + length (prologue w a)) st c f u) u (woken k (uses_of k t) st.words st.copies (erased R))
+  pub wake_runs : (R : RunningText) (a : Around) (w q : ℕ) (st : Store) (c : List ℕ) (f : Marks) (u : ℕ) → WakeAt k t s a R w q f.live → FollowsWoken a q st c f (on k t s (w + length (prologue w a)) st c f u) u (woken k (uses_of k t) st.words st.copies (erased R))
   wake_runs Done a w q st c f u h = absurd h
   wake_runs (Run x) a w q st c f u h = absurd h
   wake_runs (Then R (Go_on list)) a w q st c f u h = woken_go_on (woken k (uses_of k t) st.words st.copies (erased R)) (Go_on list) a h.0 q st c f _ u h.2 tt (wake_runs R a w h.0 st c f u h.1)

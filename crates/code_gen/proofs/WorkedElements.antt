@@ -12,17 +12,17 @@ use Rattle.thread_code.specs.declared.instruction.Instruction.{Instruction}
 use Rattle.thread_code.specs.declared.instruction.Instruction.TheVariants as instruction
 use Rattle.thread_code.specs.Machine.{Machine, On, Trapped, step}
 use Rattle.code_gen.specs.Blocks.{kernel_code, thread_block}
-use Rattle.code_gen.specs.Worked.{at, element_adds_one, three_elements}
+use Rattle.code_gen.specs.Worked.{worked_place, element_adds_one, three_elements}
 use Rattle.code_gen.proofs.Stretch.{point}
 
 abbrev steps : List Instruction
 steps =
     instruction.Load 0
     ∷ instruction.Load 0
-    ∷ instruction.GetAt 1 3 at
+    ∷ instruction.GetAt 1 3 worked_place
     ∷ instruction.Push (pos 1)
     ∷ instruction.Binary binary.Add None
-    ∷ instruction.PutAt 1 3 at
+    ∷ instruction.PutAt 1 3 worked_place
     ∷ instruction.End
     ∷ []
 
@@ -43,7 +43,7 @@ text_moves : text_move three_elements [] (uses_of three_elements 0) (pos 1 ∷ [
 unfolding int_wrap
 text_moves = refl
 
-text_traps : text_move three_elements [] (uses_of three_elements 0) (pos 3 ∷ []) before (text_of element_adds_one) ≡ Traps at Index 3
+text_traps : text_move three_elements [] (uses_of three_elements 0) (pos 3 ∷ []) before (text_of element_adds_one) ≡ Traps worked_place Index 3
 text_traps = refl
 
 abbrev begun : ℤ → Machine
@@ -53,5 +53,5 @@ code_runs : run_for (step (kernel_code three_elements) 0) 6 (begun (pos 1)) ≡ 
 unfolding int_wrap
 code_runs = refl
 
-code_traps : run_for (step (kernel_code three_elements) 0) 3 (begun (pos 3)) ≡ Trapped at Index 3
+code_traps : run_for (step (kernel_code three_elements) 0) 3 (begun (pos 3)) ≡ Trapped worked_place Index 3
 code_traps = refl

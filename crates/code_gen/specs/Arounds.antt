@@ -11,6 +11,6 @@ plain_around (InLoop' bound p outer) = plain.InLoop bound (plain_around outer)
 plain_around (InAbort' weak test exit p outer) = plain.InAbort weak (expr test.now) exit (plain_around outer)
 
 -- an instruction that may be left out
-abbrev pub perhaps : Option Instruction → List Instruction
-perhaps None = []
-perhaps (Some i) = i ∷ []
+abbrev pub optional_instruction : Option Instruction → List Instruction
+optional_instruction None = []
+optional_instruction (Some i) = i ∷ []

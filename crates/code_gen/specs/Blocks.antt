@@ -11,9 +11,9 @@ use Rattle.thread_code.specs.Plain.{PlainBlock, PlainCode}
 use Rattle.code_gen.specs.Statements.{Outside, statement_code}
 
 -- how deep loops with a bound nest
-abbrev pub counted : Option ℕ → ℕ → ℕ
-counted None n = n
-counted (Some bound) n = suc n
+abbrev pub loop_nesting : Option ℕ → ℕ → ℕ
+loop_nesting None n = n
+loop_nesting (Some bound) n = suc n
 
 abbrev mutual
   pub counters_in : Stmt → ℕ
@@ -24,7 +24,7 @@ abbrev mutual
   counters_in (Clear x n) = 0
   counters_in (Seq list) = counters_of list
   counters_in (If e then other) = max (counters_in then) (counters_in other)
-  counters_in (While e bound body place) = counted bound (counters_in body)
+  counters_in (While e bound body place) = loop_nesting bound (counters_in body)
   counters_in Pause = 0
   counters_in (Par branches) = 0
   counters_in (Enter weak immediate e body) = counters_in body
@@ -63,13 +63,13 @@ abbrev pub body_block : List Instruction → ℕ → ℕ → ℕ → ℕ → Pla
 body_block steps params words counters flags = record { steps = steps; params = params; words = words; counters = counters; flags = flags }
 
 -- a thread's body, and an end
-abbrev pub thread_body : List PlainThread → (params words : ℕ) → Stmt → PlainBlock
-thread_body ts params words body =
+abbrev pub thread_body_block : List PlainThread → (params words : ℕ) → Stmt → PlainBlock
+thread_body_block ts params words body =
     body_block (statement_code ts Outside 0 body ++ instruction.End ∷ []) params words (counters_in body) (flags_in body)
 
 -- A function's body. (It returns on each path; the jumps past its last statement lead to a return of their own.)
-abbrev pub function_body : List PlainThread → (params words : ℕ) → Stmt → PlainBlock
-function_body ts params words body =
+abbrev pub function_body_block : List PlainThread → (params words : ℕ) → Stmt → PlainBlock
+function_body_block ts params words body =
     body_block (statement_code ts Outside 0 body ++ instruction.Quiet (pos 0) ∷ instruction.Return ∷ []) params words (counters_in body) 0
 
 -- the block of thread t of a kernel

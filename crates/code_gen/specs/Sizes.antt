@@ -25,17 +25,17 @@ abbrev pub arguments_length : List Branch → ℕ
 arguments_length [] = 0
 arguments_length (b ∷ bs) = expressions_length b.args + arguments_length bs
 
-abbrev pub one_if : Bool → ℕ
-one_if b = cond b 1 0
+abbrev pub count_if : Bool → ℕ
+count_if b = cond b 1 0
 
 -- a loop with a bound is counted
-abbrev pub counted : Option ℕ → ℕ
-counted None = 0
-counted (Some n) = 1
+abbrev pub counted_loops : Option ℕ → ℕ
+counted_loops None = 0
+counted_loops (Some n) = 1
 
 -- the start of an abort: its test and a guard where it is immediate, a flag where it is weak
 abbrev pub entry_length : Bool → Bool → ℕ → ℕ
-entry_length weak immediate test = cond immediate (test + 1) (one_if weak)
+entry_length weak immediate test = cond immediate (test + 1) (count_if weak)
 
 -- a statement with so many instructions before each of its pauses, and so many after it
 abbrev mutual
@@ -48,11 +48,11 @@ abbrev mutual
   statement_length c w (Seq list) = statements_length c w list
   statement_length c w (If e a b) = expression_length e + (statement_length c w a + statement_length c w b) + 2
   statement_length c w (While e bound body place) =
-      expression_length e + statement_length c (w + counted bound) body + (2 + 2 * counted bound)
+      expression_length e + statement_length c (w + counted_loops bound) body + (2 + 2 * counted_loops bound)
   statement_length c w Pause = c + w + 2
   statement_length c w (Par branches) = arguments_length branches + (c + c + w) + 6
   statement_length c w (Enter weak immediate e body) =
-      entry_length weak immediate (expression_length e) + statement_length (c + one_if weak) (w + (expression_length e + 1)) body
+      entry_length weak immediate (expression_length e) + statement_length (c + count_if weak) (w + (expression_length e + 1)) body
   statement_length c w (Return e) = expression_length e + 1
 
   pub statements_length : (checks prologue : ℕ) → Stmts → ℕ
@@ -61,7 +61,7 @@ abbrev mutual
 
 -- the body of an abort whose test has so many instructions
 abbrev pub abort_length : (checks prologue : ℕ) → Bool → (test : ℕ) → Stmt → ℕ
-abort_length c w weak test body = statement_length (c + one_if weak) (w + (test + 1)) body
+abort_length c w weak test body = statement_length (c + count_if weak) (w + (test + 1)) body
 
 -- how many instructions the bodies of aborts have, in the order of the text
 abbrev mutual
@@ -73,11 +73,11 @@ abbrev mutual
   aborts_in c w (Clear x n) = []
   aborts_in c w (Seq list) = aborts_of c w list
   aborts_in c w (If e a b) = aborts_in c w a ++ aborts_in c w b
-  aborts_in c w (While e bound body place) = aborts_in c (w + counted bound) body
+  aborts_in c w (While e bound body place) = aborts_in c (w + counted_loops bound) body
   aborts_in c w Pause = []
   aborts_in c w (Par branches) = []
   aborts_in c w (Enter weak immediate e body) =
-      statement_length (c + one_if weak) (w + (expression_length e + 1)) body ∷ aborts_in (c + one_if weak) (w + (expression_length e + 1)) body
+      statement_length (c + count_if weak) (w + (expression_length e + 1)) body ∷ aborts_in (c + count_if weak) (w + (expression_length e + 1)) body
   aborts_in c w (Return e) = []
 
   pub aborts_of : (checks prologue : ℕ) → Stmts → List ℕ
@@ -87,4 +87,4 @@ abbrev mutual
 -- the body of an abort whose test has so many instructions, and the bodies inside
 abbrev pub abort_bodies : (checks prologue : ℕ) → Bool → (test : ℕ) → Stmt → List ℕ
 abort_bodies c w weak test body =
-    statement_length (c + one_if weak) (w + (test + 1)) body ∷ aborts_in (c + one_if weak) (w + (test + 1)) body
+    statement_length (c + count_if weak) (w + (test + 1)) body ∷ aborts_in (c + count_if weak) (w + (test + 1)) body

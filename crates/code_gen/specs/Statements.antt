@@ -120,13 +120,13 @@ par_in [] t = None
 par_in (s ∷ ss) zero = s.par
 par_in (s ∷ ss) (suc t) = par_in ss t
 
-abbrev pub number_or : Option ℕ → ℕ
-number_or None = 0
-number_or (Some n) = n
+abbrev pub bound_or_zero : Option ℕ → ℕ
+bound_or_zero None = 0
+bound_or_zero (Some n) = n
 
 abbrev pub par_number : List PlainThread → List Branch → ℕ
 par_number ts [] = 0
-par_number ts (b ∷ bs) = number_or (par_in ts b.thread)
+par_number ts (b ∷ bs) = bound_or_zero (par_in ts b.thread)
 
 -- the arguments of all branches, in order
 abbrev pub arguments_code : ℕ → List Branch → List Instruction

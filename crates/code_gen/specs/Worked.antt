@@ -7,8 +7,8 @@ use Rattle.forec_kernel.specs.declared.terms.Spot.TheVariants as spot
 use Rattle.forec_kernel.specs.Terms.{Num, Local, Var, SharedAt, Bin, no_exprs, Stmt, Set, PutAt, Seq, While, Pause, Par, Enter, no_stmts, more_stmts}
 use Rattle.forec_kernel.specs.Shapes.{PlainKernel, PlainShape}
 
-abbrev pub at : Place
-at = record { line = 1; column = 2 }
+abbrev pub worked_place : Place
+worked_place = record { line = 1; column = 2 }
 
 -- `o = o + 1;`
 abbrev pub adds_one : Stmt
@@ -19,7 +19,7 @@ two a b = Seq (more_stmts a (more_stmts b no_stmts))
 
 -- `while (1) #5 { o = o + 1; pause; }`
 abbrev pub five_turns : Stmt
-five_turns = While (Num (pos 1)) (Some 5) (two adds_one Pause) at
+five_turns = While (Num (pos 1)) (Some 5) (two adds_one Pause) worked_place
 
 -- `par(branch);`
 abbrev pub one_branch : Stmt
@@ -56,7 +56,7 @@ surrounded = record { shape = surrounded_shape; threads = main_body ∷ branch_b
 
 -- `h[i] = h[i] + 1;`, where i is word 0, and h has three elements, the variables from 1 on
 abbrev pub element_adds_one : Stmt
-element_adds_one = PutAt 1 3 (Local 0) (Bin binary.Add (SharedAt 1 3 (Local 0) at) (Num (pos 1)) None) at
+element_adds_one = PutAt 1 3 (Local 0) (Bin binary.Add (SharedAt 1 3 (Local 0) worked_place) (Num (pos 1)) None) worked_place
 
 abbrev pub three_elements : PlainKernel
 three_elements =

@@ -7,7 +7,7 @@ ghost use Rattle.thread_code.specs.Plain.{plain_block, plain_code};
 ghost use Rattle.thread_code.specs.Alone.{Stands};
 ghost use Rattle.thread_code.specs.Valid.{IsValidCode};
 ghost use Rattle.code_gen.specs.Statements.{Outside, statement_code};
-ghost use Rattle.code_gen.specs.Blocks.{thread_body, function_body, thread_block, function_block, blocks_from, counters_in, counters_of, flags_in, flags_of};
+ghost use Rattle.code_gen.specs.Blocks.{thread_body_block, function_body_block, thread_block, function_block, blocks_from, counters_in, counters_of, flags_in, flags_of};
 
 use crate::around::{Around, Surroundings};
 use crate::sizes::statement_size;
@@ -136,7 +136,7 @@ fn block_of_thread(
     threads: &[ThreadShape],
     room: &mut u32,
 ) -> Result<Block, OutOfMemory>
-    ensures { IfOk result (λ b. plain_block b ≡ thread_body (map plain_thread threads.now) shape.now.params shape.now.words (stmt body.now)) }
+    ensures { IfOk result (λ b. plain_block b ≡ thread_body_block (map plain_thread threads.now) shape.now.params shape.now.words (stmt body.now)) }
 {
     let mut steps = body_steps(alloc, body, threads, room)?;
     put(&mut steps, Instruction::End)?;
@@ -156,7 +156,7 @@ fn block_of_function(
     threads: &[ThreadShape],
     room: &mut u32,
 ) -> Result<Block, OutOfMemory>
-    ensures { IfOk result (λ b. plain_block b ≡ function_body (map plain_thread threads.now) shape.now.params shape.now.words (stmt body.now)) }
+    ensures { IfOk result (λ b. plain_block b ≡ function_body_block (map plain_thread threads.now) shape.now.params shape.now.words (stmt body.now)) }
 {
     let mut steps = body_steps(alloc, body, threads, room)?;
     put(&mut steps, Instruction::Quiet { value: 0 })?;

@@ -5,7 +5,7 @@ ghost use Rattle.forec_kernel.specs.Plain.{expr, exprs, stmt, stmts, branch};
 ghost use Rattle.forec_kernel.specs.Shapes.{plain_thread};
 ghost use Rattle.forec_kernel.specs.Terms.{SetAt, PutAt, While, Enter};
 ghost use Rattle.code_gen.specs.Statements.{loops, weaks, checks, prologue, wait_code, pause_code, fork_code, set_code, entry_code, par_number, arguments_code};
-ghost use Rattle.code_gen.specs.Arounds.{plain_around, perhaps};
+ghost use Rattle.code_gen.specs.Arounds.{plain_around, optional_instruction};
 ghost use Rattle.code_gen.specs.StatementCode.{assignment_code, code_within, codes_within, loop_within};
 
 use crate::around::{Around, Surroundings};
@@ -28,7 +28,7 @@ fn put_perhaps(
     steps: &mut Vec<Instruction>,
     instruction: Option<Instruction>,
 ) -> Result<(), OutOfMemory>
-    ensures { OnOk result (steps.new.items ≡ steps.old.items ++ perhaps instruction) }
+    ensures { OnOk result (steps.new.items ≡ steps.old.items ++ optional_instruction instruction) }
 {
     match instruction {
         Some(instruction) => put(steps, instruction),
@@ -285,7 +285,7 @@ impl Emitter {
         surroundings: &Surroundings<'_>,
     ) -> Result<(), OutOfMemory>
         ensures { OnOk result (self.new.steps.items ≡ self.old.steps.items
-            ++ loop_within surroundings.now (length self.old.steps.items) (expr test.now) (perhaps turn) (stmt body.now)) }
+            ++ loop_within surroundings.now (length self.old.steps.items) (expr test.now) (optional_instruction turn) (stmt body.now)) }
     {
         let head = address(&self.steps)?;
         emit_expression(&mut self.steps, test)?;

@@ -8,7 +8,7 @@ use Rattle.forec_kernel.specs.Values.{Value, Gives, Raises}
 use Rattle.forec_kernel.specs.Combining.{Share, takes_part, taking_part, some_marked, fold_calls, last_value, variable_calls, combined_value}
 use Rattle.combine_tree.specs.declared.joining.Fold.{Fold}
 use Rattle.combine_tree.specs.Joins.{result_of}
-use Rattle.combine_tree.specs.Offers.{offers, fold_arguments, variable_arguments, call_of, stops, some_stops, OfferingIsCombining, first_stays, FirstStays}
+use Rattle.combine_tree.specs.Offers.{offers, fold_arguments, variable_arguments, call_of, raises, some_stops, OfferingIsCombining, first_stays, FirstStays}
 
 abbrev pub with_total : VarCopy → Bool → ℤ → Fold
 with_total base marked n = record { base = base; marked = marked; total = Some n; waits = false }

@@ -27,12 +27,12 @@ with_value value fold (Some total) = record fold { waits = true }
 abbrev pub with_mark : Bool → Fold → Fold
 with_mark modified fold = record fold { marked = fold.marked || modified }
 
-abbrev pub offered : Policy → VarCopy → Fold → Fold
-offered policy copy fold =
+abbrev pub offered_copy : Policy → VarCopy → Fold → Fold
+offered_copy policy copy fold =
     cond (takes_part policy fold.base.value copy) (with_value copy.value (with_mark copy.modified fold) fold.total) (with_mark copy.modified fold)
 
-abbrev pub folded : ℤ → Fold → Fold
-folded value fold = record fold { total = Some value; waits = false }
+abbrev pub fold_value : ℤ → Fold → Fold
+fold_value value fold = record fold { total = Some value; waits = false }
 
 -- a value took part, or a copy was marked
 abbrev pub is_touched : Fold → Bool

@@ -5,10 +5,10 @@ use Rattle.forec_kernel.specs.declared.shape.VarCopy.{VarCopy}
 use Rattle.forec_kernel.specs.Values.{Value, Gives, Raises}
 use Rattle.forec_kernel.specs.Combining.{Share, Joint, taking_part, some_marked, variable_calls, combined_value}
 use Rattle.combine_tree.specs.declared.joining.Fold.{Fold}
-use Rattle.combine_tree.specs.Joins.{begun, offered, pair_of, folded, result_of}
+use Rattle.combine_tree.specs.Joins.{begun, offered_copy, pair_of, fold_value, result_of}
 
 -- two values that were given to be combined, and the branch whose value is the second
-pub record Pair : Type 0 where
+pub record ValuePair : Type 0 where
   pub from : ℕ
   pub left : ℤ
   pub right : ℤ
@@ -16,49 +16,49 @@ pub record Pair : Type 0 where
 -- what has come of the offers: the variable, and the pairs that were given, in order
 pub record Offers : Type 0 where
   pub fold : Fold
-  pub pairs : List Pair
+  pub pairs : List ValuePair
 
-abbrev pub with_pair : Pair → Offers → Offers
+abbrev pub with_pair : ValuePair → Offers → Offers
 with_pair pair o = record { fold = o.fold; pairs = pair ∷ o.pairs }
 
 -- goes on with the combine function's number folded in; a trap is the end
-abbrev pub answered : Fold → Value → (Fold → Offers) → Offers
-answered fold (Gives n u) go = go (folded n fold)
-answered fold (Raises place trap u) go = record { fold = fold; pairs = [] }
+abbrev pub after_combining : Fold → Value → (Fold → Offers) → Offers
+after_combining fold (Gives n u) go = go (fold_value n fold)
+after_combining fold (Raises place trap u) go = record { fold = fold; pairs = [] }
 
 -- goes on after an offer: at once, or with a pair
-abbrev pub given : (ℤ → ℤ → Value) → ℕ → Fold → Option (ℤ × ℤ) → (Fold → Offers) → Offers
-given f from fold None go = go fold
-given f from fold (Some (x, y)) go = with_pair (record { from = from; left = x; right = y }) (answered fold (f x y) go)
+abbrev pub after_offered : (ℤ → ℤ → Value) → ℕ → Fold → Option (ℤ × ℤ) → (Fold → Offers) → Offers
+after_offered f from fold None go = go fold
+after_offered f from fold (Some (x, y)) go = with_pair (record { from = from; left = x; right = y }) (after_combining fold (f x y) go)
 
 -- offers of these copies, in order
 abbrev pub offers : (ℤ → ℤ → Value) → Policy → Fold → List Share → Offers
 offers f policy fold [] = record { fold = fold; pairs = [] }
 offers f policy fold (s ∷ ss) =
-    given f s.from (offered policy s.copy fold) (pair_of policy s.copy fold) (λ next. offers f policy next ss)
+    after_offered f s.from (offered_copy policy s.copy fold) (pair_of policy s.copy fold) (λ next. offers f policy next ss)
 
 -- the arguments of the calls of a left fold, in order; a trap ends it
-abbrev pub fold_arguments : (ℤ → ℤ → Value) → ℤ → List Share → List Pair
+abbrev pub fold_arguments : (ℤ → ℤ → Value) → ℤ → List Share → List ValuePair
 fold_arguments f total [] = []
 fold_arguments f total (s ∷ ss) =
     record { from = s.from; left = total; right = s.copy.value } ∷
     elim (f total s.copy.value) [ Gives n u ↦ fold_arguments f n ss | Raises place trap u ↦ [] ]
 
 -- the arguments of the calls for a variable, of the values that take part
-abbrev pub variable_arguments : (ℤ → ℤ → Value) → List Share → List Pair
+abbrev pub variable_arguments : (ℤ → ℤ → Value) → List Share → List ValuePair
 variable_arguments f [] = []
 variable_arguments f (s ∷ ss) = fold_arguments f s.copy.value ss
 
-abbrev pub call_of : (ℤ → ℤ → Value) → Pair → Joint
+abbrev pub call_of : (ℤ → ℤ → Value) → ValuePair → Joint
 call_of f pair = record { from = pair.from; gives = f pair.left pair.right }
 
-abbrev pub stops : Value → Bool
-stops (Gives n u) = false
-stops (Raises place trap u) = true
+abbrev pub raises : Value → Bool
+raises (Gives n u) = false
+raises (Raises place trap u) = true
 
 abbrev pub some_stops : List Joint → Bool
 some_stops [] = false
-some_stops (j ∷ js) = stops j.gives || some_stops js
+some_stops (j ∷ js) = raises j.gives || some_stops js
 
 -- Offering is combining as it is defined, by a filter and a fold: the pairs are the arguments of the fold's calls, each with the number that the
 -- call gives; the value is the fold's; and where no call traps the mark is that of the parent's copy or of any branch's.
@@ -77,9 +77,9 @@ abbrev pub first_stays : ℤ → ℤ → Value
 first_stays x y = Gives x 0
 
 -- without a combine function the first value that takes part stays, and nothing traps
-pub record IsFirst (base : ℤ) (ss : List Share) : Type 0 where
+pub record FirstValueStays (base : ℤ) (ss : List Share) : Type 0 where
   pub value : combined_value None base ss ≡ combined_value (Some first_stays) base ss
   pub goes_on : some_stops (variable_calls (Some first_stays) ss) ≡ false
 
 abbrev pub FirstStays : Type 0
-FirstStays = (base : ℤ) (ss : List Share) → IsFirst base ss
+FirstStays = (base : ℤ) (ss : List Share) → FirstValueStays base ss

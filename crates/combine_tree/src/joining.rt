@@ -2,7 +2,7 @@
 
 ghost use Rattle.std.specs.Prelude.{◌≡◌, ◌<◌, false, true, length, map, replicate, slice_set, IfOk};
 ghost use Rattle.forec_kernel.specs.Combining.{takes_part};
-ghost use Rattle.combine_tree.specs.Joins.{blank_fold, fold_at, begun, offered, pair_of, folded, is_touched, result_of};
+ghost use Rattle.combine_tree.specs.Joins.{blank_fold, fold_at, begun, offered_copy, pair_of, fold_value, is_touched, result_of};
 
 use forec_base::{OutOfMemory, Policy};
 use forec_kernel::VarCopy;
@@ -109,7 +109,7 @@ impl Joining {
     pub fn offer(&mut self, at: usize, policy: Policy, copy: VarCopy) -> Option<(i32, i32)>
         requires inside { at < length self.old }
         requires free { (fold_at self.old at).waits ≡ false }
-        ensures state { self.new ≡ slice_set self.old at (offered policy copy (fold_at self.old at)) }
+        ensures state { self.new ≡ slice_set self.old at (offered_copy policy copy (fold_at self.old at)) }
         ensures pair { result ≡ pair_of policy copy (fold_at self.old at) }
     {
         let fold = &mut self.folds[at];
@@ -129,7 +129,7 @@ impl Joining {
     pub fn fold(&mut self, at: usize, value: i32)
         requires inside { at < length self.old }
         requires waits { (fold_at self.old at).waits ≡ true }
-        ensures { self.new ≡ slice_set self.old at (folded value (fold_at self.old at)) }
+        ensures { self.new ≡ slice_set self.old at (fold_value value (fold_at self.old at)) }
     {
         let fold = &mut self.folds[at];
         fold.total = Some(value);

@@ -1,7 +1,7 @@
 -- What words ask for, by whether clap takes them.
 use Rattle.std.proofs.Common.{◌≡◌, ◌≢◌, refl, List, Option, None, [], ◌∷◌}
 use Rattle.clap.specs.Words.{Kinds, Text}
-use Rattle.command_words.specs.CommandLine.{kinds_of, values_of}
+use Rattle.command_words.specs.CommandLine.{kinds_of, command_values}
 use Rattle.command_words.specs.Requests.{PlainRequest, request_of, request_by, unless_refused}
 
 taken : (kinds : Kinds) (r : Option PlainRequest) → kinds ≡ [] → unless_refused kinds r ≡ r
@@ -12,7 +12,7 @@ not_taken : (kinds : Kinds) (r : Option PlainRequest) → kinds ≢ [] → unles
 not_taken [] r h = absurd (h refl)
 not_taken (k ∷ ks) r h = refl
 
-pub asked : (words : List Text) → kinds_of words ≡ [] → request_of words ≡ request_by (values_of words)
+pub asked : (words : List Text) → kinds_of words ≡ [] → request_of words ≡ request_by (command_values words)
 unfolding request_of
 asked words e = taken (kinds_of words) _ e
 

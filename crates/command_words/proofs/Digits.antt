@@ -6,7 +6,7 @@ use Rattle.std.specs.Result.{result_ok}
 use Rattle.std.specs.Str.Parse.{digits_value, ParsesUnsigned}
 use Rattle.std.proofs.lemmas.Bool.{ltb-true}
 use Rattle.std.proofs.lemmas.Str.Parse.{IsNumeralModel, IsDigitsTest, numerals_by_value, parse_gives, digits_value_short}
-use Rattle.command_words.specs.Numbers.{is_decimal, number_of}
+use Rattle.command_words.specs.Numbers.{is_decimal, written_number}
 
 tells : IsDigitsTest (λ ds. list_all is_ascii_digit ds ≡ true)
 tells = search rules
@@ -31,5 +31,5 @@ parses bs r h number =
     let small : digits_value 10 bs < 10 ^ 19 = digits_value_short own bs 19 digits (omega arith) in
     parse_gives own 64 bs r h digits some (omega arith)
 
-pub number_is : {E : Type 0} (bs : List ℕ) (r : Result ℕ E) (o : Option ℕ) → ParsesUnsigned 64 10 bs r → is_decimal bs ≡ true → o ≡ result_ok r → o ≡ number_of bs
+pub number_is : {E : Type 0} (bs : List ℕ) (r : Result ℕ E) (o : Option ℕ) → ParsesUnsigned 64 10 bs r → is_decimal bs ≡ true → o ≡ result_ok r → o ≡ written_number bs
 number_is bs r o h number is = rw number (is ∙ ap result_ok (parses bs r h number))

@@ -63,8 +63,8 @@ pub record PlainValues : Type 0 where
   pub fold : Bool
 
 -- the value of each name in the words
-abbrev pub values_of : List Text → PlainValues
-values_of words =
+abbrev pub command_values : List Text → PlainValues
+command_values words =
     record {
       command = value_of words (codes "command");
       program = value_of words (codes "program");

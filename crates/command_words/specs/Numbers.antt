@@ -9,8 +9,8 @@ abbrev pub is_decimal : List ℕ → Bool
 is_decimal word = nat_lt 0 (length word) && (nat_lt (length word) 20 && list_all is_ascii_digit word)
 
 -- the number that they write
-abbrev pub number_of : List ℕ → Option ℕ
-number_of word = cond (is_decimal word) (Some (digits_value 10 word)) None
+abbrev pub written_number : List ℕ → Option ℕ
+written_number word = cond (is_decimal word) (Some (digits_value 10 word)) None
 
 abbrev pub between : ℕ → ℕ → Option ℕ → Option ℕ
 between least most None = None
@@ -18,7 +18,7 @@ between least most (Some n) = cond (nat_le least n && nat_le n most) (Some n) No
 
 -- the number of a word, where it is one from the least to the most
 abbrev pub number_in : ℕ → ℕ → List ℕ → Option ℕ
-number_in least most word = between least most (number_of word)
+number_in least most word = between least most (written_number word)
 
 -- the number of a word, where it is one from the least to the most, or the usual one where there is no word
 abbrev pub number_or : ℕ → ℕ → ℕ → Option (List ℕ) → Option ℕ

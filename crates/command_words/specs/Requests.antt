@@ -2,7 +2,7 @@
 use Rattle.std.specs.Prelude.{ℕ, Bool, not, nat_eq, nat_le, nat_lt, length, map, ◌&&◌, ◌||◌, cond, is_some, is_none, Option, None, Some, option_map, option_and_then, List, [], ◌∷◌, if◌then◌else◌, codes}
 use Rattle.clap.specs.Words.{Kinds, Text}
 use Rattle.forec_base.specs.declared.limits.TheConstants.{MAX_CORES, MAX_BUDGET}
-use Rattle.command_words.specs.CommandLine.{PlainValues, is_word, kinds_of, values_of}
+use Rattle.command_words.specs.CommandLine.{PlainValues, is_word, kinds_of, command_values}
 use Rattle.command_words.specs.Numbers.{number_in, number_or}
 use Rattle.command_words.specs.declared.request.TheConstants.{DEFAULT_BUDGET, MAX_ORDER, MAX_WORKLOAD, MAX_TRACES}
 use Rattle.command_words.specs.declared.request.Budget.{Budget}
@@ -58,8 +58,8 @@ budget_or (Some word) = budget_in word
 abbrev pub budget_of : PlainValues → Option Budget
 budget_of v = budget_or v.budget
 
-abbrev pub order_of : PlainValues → Option ℕ
-order_of v = number_or 0 0 MAX_ORDER v.order
+abbrev pub order_number : PlainValues → Option ℕ
+order_number v = number_or 0 0 MAX_ORDER v.order
 
 -- no order is given
 abbrev pub running_of : PlainValues → Option PlainRunning
@@ -71,7 +71,7 @@ placing_alone_of v = cond (is_some v.budget || is_some v.order) None (placing_of
 
 -- neither cores nor a list of places is given
 abbrev pub explaining_of : PlainValues → Option PlainCommand
-explaining_of v = cond (is_some v.cores || is_some v.place) None (option_and_then (λ b. option_map (Explain b) (order_of v)) (budget_of v))
+explaining_of v = cond (is_some v.cores || is_some v.place) None (option_and_then (λ b. option_map (Explain b) (order_number v)) (budget_of v))
 
 abbrev pub has_no_options : PlainValues → Bool
 has_no_options v = is_none v.cores && (is_none v.place && (is_none v.budget && is_none v.order))
@@ -149,7 +149,7 @@ unless_refused (kind ∷ kinds) r = None
 
 -- what words ask for; none where they are no command
 unfoldable pub request_of : List Text → Option PlainRequest
-request_of words = unless_refused (kinds_of words) (request_by (values_of words))
+request_of words = unless_refused (kinds_of words) (request_by (command_values words))
 
 -- ---- of the Rust types
 

@@ -2,7 +2,7 @@
 
 ghost use Rattle.std.specs.Prelude.{◌≡◌, ◌≢◌, [], IfOk, IfErr, Err, map, codes, string_bytes, option_map, false};
 ghost use Rattle.clap.specs.Words.{app_of, rule_of, with_rule};
-ghost use Rattle.command_words.specs.CommandLine.{bared, word_rule, more_rule, option_rule, flag_rule, is_set, kept_words, command_line, kinds_of, values_of, plain_values};
+ghost use Rattle.command_words.specs.CommandLine.{bared, word_rule, more_rule, option_rule, flag_rule, is_set, kept_words, command_line, kinds_of, command_values, plain_values};
 ghost use Rattle.command_words.specs.declared.fault.WordsFault.TheVariants as fault;
 
 use crate::fault::WordsFault;
@@ -114,7 +114,7 @@ fn fault(kind: ErrorKind) -> WordsFault
 /// `Usage` exactly where `clap` refuses the words. Or out of memory.
 pub fn values<'a>(alloc: Global, words: &'a [String]) -> Result<Values<'a>, WordsFault>
     ensures accepted { IfOk result (λ v. kinds_of (map string_bytes words.entry.now) ≡ []) }
-    ensures values { IfOk result (λ v. plain_values v ≡ values_of (map string_bytes words.entry.now)) }
+    ensures values { IfOk result (λ v. plain_values v ≡ command_values (map string_bytes words.entry.now)) }
     ensures usage { result ≡ Err fault.Usage → kinds_of (map string_bytes words.entry.now) ≢ [] }
 {
     let command = command(alloc)?;

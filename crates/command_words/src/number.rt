@@ -3,7 +3,7 @@
 ghost use Rattle.std.specs.Prelude.{◌≡◌, ◌≤◌, ◌<◌, ◌^◌, IfSome, option_map};
 ghost use Rattle.std.specs.List.{list_all};
 ghost use Rattle.std.specs.Char.{is_ascii_digit};
-ghost use Rattle.command_words.specs.Numbers.{is_decimal, number_of, number_in, number_or};
+ghost use Rattle.command_words.specs.Numbers.{is_decimal, written_number, number_in, number_or};
 
 fn are_digits(text: &str) -> bool
     ensures { result ≡ list_all is_ascii_digit text.now }
@@ -19,7 +19,7 @@ fn is_number(word: &str) -> bool
 
 /// The number that 1 to 19 decimal digits write.
 fn number(word: &str) -> Option<u64>
-    ensures { result ≡ number_of word.now }
+    ensures { result ≡ written_number word.now }
 {
     if is_number(word) {
         word.parse().ok()

@@ -12,7 +12,7 @@ use Rattle.copy_slots.specs.declared.view.Taker.{Taker}
 use Rattle.copy_slots.specs.declared.view.Role.{Role}
 use Rattle.copy_slots.specs.declared.view.Role.TheVariants.{Idle, Keeper, Mailbox}
 use Rattle.copy_slots.specs.declared.view.View.{View}
-use Rattle.copy_slots.specs.Mail.{Mail, untouched, End, parent_of, child_of, root, owner_of, SendsAt, TakesAt, KnowsParent, KnowsChild, Knows, Has, IsEnd, BoxAt, spent, Seated, Kept, posed, new_sender, new_taker, left_of, right_of, dealt_left, dealt_right, role_checked, role_stopped, starting, checked, stops}
+use Rattle.copy_slots.specs.Mail.{MailboxState, untouched, End, parent_of, child_of, root, owner_of, SendsAt, TakesAt, KnowsParent, KnowsChild, KnowsRole, Has, IsEnd, BoxAt, spent, IsSeatView, MailInvariant, posed, new_sender, new_taker, left_of, right_of, dealt_left, dealt_right, role_checked, role_stopped, starting, checked, stops}
 use Rattle.copy_slots.proofs.MailLemmas.{put, put_here, put_else, ends_stay, knows, at_end}
 
 module _ {W P Q : Type 0} (plain : P → Q) (asks : W → ℕ → List Q → Type 0) (answers : W → ℕ → List Q → Q → Type 0) (work : W) (blanks : List Q) where
@@ -20,10 +20,10 @@ module _ {W P Q : Type 0} (plain : P → Q) (asks : W → ℕ → List Q → Typ
   St = State (Option P) (View W Q)
 
   abbrev Rule : St → Type 0
-  Rule = Kept plain asks answers work blanks
+  Rule = MailInvariant plain asks answers work blanks
 
-  abbrev Sits : (ℕ → Mail Q) → (ℕ → ℕ) → (ℕ → ℕ) → ℕ → Bool → ℕ → View W Q → Type 0
-  Sits mail parent child keeper stored = Seated plain asks answers work blanks mail (owner_of parent child keeper) stored
+  abbrev Sits : (ℕ → MailboxState Q) → (ℕ → ℕ) → (ℕ → ℕ) → ℕ → Bool → ℕ → View W Q → Type 0
+  Sits mail parent child keeper stored = IsSeatView plain asks answers work blanks mail (owner_of parent child keeper) stored
 
   -- the seat id has a new role with the same ends, and only the stop word may change
   pub reseat : (s : St) (r : Rule s) (id : ℕ) (v w : View W Q) (words : List ℕ) (stored : Bool) → get_elem? s.views id ≡ some v → length words ≡ length s.words
@@ -57,7 +57,7 @@ module _ {W P Q : Type 0} (plain : P → Q) (asks : W → ℕ → List Q → Typ
     tt,
     subst (λ (ws : List ℕ). Rule record { words = ws; homes = s.homes; views = set s.views id w }) was
         (reseat s r id me.0 w s.words r.stored at refl (λ k l. refl) r.stop
-        (⊎_elim (λ (g : me.0 ≡ spent). absurd (live g)) (λ (h : (me.0.work ≡ Some work) × (me.0.blanks ≡ blanks) × Knows (length blanks) r.mail (owner_of r.parent r.child r.keeper) r.stored id me.0.role). inr (h.0, h.1, still r.mail r.parent r.child r.keeper r.stored id found me.0.role h.2)) (r.each_view id me.0 at))
+        (⊎_elim (λ (g : me.0 ≡ spent). absurd (live g)) (λ (h : (me.0.work ≡ Some work) × (me.0.blanks ≡ blanks) × KnowsRole (length blanks) r.mail (owner_of r.parent r.child r.keeper) r.stored id me.0.role). inr (h.0, h.1, still r.mail r.parent r.child r.keeper r.stored id found me.0.role h.2)) (r.each_view id me.0 at))
         (λ e. has found me.0.role e) (λ j u other t. t)),
     (
       refl,
@@ -67,7 +67,7 @@ module _ {W P Q : Type 0} (plain : P → Q) (asks : W → ℕ → List Q → Typ
     ),
   )
     where
-      still : (mail : ℕ → Mail Q) (parent child : ℕ → ℕ) (keeper : ℕ) (stored : Bool) (j found : ℕ) (role : Role Q) → Knows (length blanks) mail (owner_of parent child keeper) stored j role → Knows (length blanks) mail (owner_of parent child keeper) stored j (role_checked found role)
+      still : (mail : ℕ → MailboxState Q) (parent child : ℕ → ℕ) (keeper : ℕ) (stored : Bool) (j found : ℕ) (role : Role Q) → KnowsRole (length blanks) mail (owner_of parent child keeper) stored j role → KnowsRole (length blanks) mail (owner_of parent child keeper) stored j (role_checked found role)
       still mail parent child keeper stored j found (Idle ws) h = tt
       still mail parent child keeper stored j found (Keeper from st ws) h = h
       still mail parent child keeper stored j found (Mailbox k p c) h = h
@@ -89,10 +89,10 @@ module _ {W P Q : Type 0} (plain : P → Q) (asks : W → ℕ → List Q → Typ
         reseat s r id me.0 w (set s.words word 1) true at (length-set s.words word 1)
             (λ k l. get_or-set_other s.words word k 1 0 (λ e. omega arith))
             (subst (λ (z : ℕ). get_or (set s.words word 1) z 0 < 2) n (subst (λ (z : ℕ). z < 2) (sym (get_or-set_same s.words word 1 0 (omega arith))) (omega arith)), λ _. refl)
-            (inr (h.0, h.1, subst (Knows (length blanks) r.mail (owner_of r.parent r.child r.keeper) true id) (sym now) (h.2.0, refl, h.2.2)))
+            (inr (h.0, h.1, subst (KnowsRole (length blanks) r.mail (owner_of r.parent r.child r.keeper) true id) (sym now) (h.2.0, refl, h.2.2)))
             (λ e t. subst (λ (z : Role Q). Has z e) (sym now) (has e (subst (λ (z : Role Q). Has z e) is t)))
             (λ j u other. ⊎_elim (λ (g : u ≡ spent). inl g)
-            (λ (t : (u.work ≡ Some work) × (u.blanks ≡ blanks) × Knows (length blanks) r.mail (owner_of r.parent r.child r.keeper) r.stored j u.role). inr (t.0, t.1, same r.mail r.parent r.child r.keeper r.stored id j other h.2.0 u.role t.2))),
+            (λ (t : (u.work ≡ Some work) × (u.blanks ≡ blanks) × KnowsRole (length blanks) r.mail (owner_of r.parent r.child r.keeper) r.stored j u.role). inr (t.0, t.1, same r.mail r.parent r.child r.keeper r.stored id j other h.2.0 u.role t.2))),
         (refl, refl),
       )
     where
@@ -101,7 +101,7 @@ module _ {W P Q : Type 0} (plain : P → Q) (asks : W → ℕ → List Q → Typ
       has (child_of k) h = h
       has root h = h
 
-      same : (mail : ℕ → Mail Q) (parent child : ℕ → ℕ) (keeper : ℕ) (stored : Bool) (id j : ℕ) → j ≢ id → keeper ≡ id → (role : Role Q) → Knows (length blanks) mail (owner_of parent child keeper) stored j role → Knows (length blanks) mail (owner_of parent child keeper) true j role
+      same : (mail : ℕ → MailboxState Q) (parent child : ℕ → ℕ) (keeper : ℕ) (stored : Bool) (id j : ℕ) → j ≢ id → keeper ≡ id → (role : Role Q) → KnowsRole (length blanks) mail (owner_of parent child keeper) stored j role → KnowsRole (length blanks) mail (owner_of parent child keeper) true j role
       same mail parent child keeper stored id j other mine (Idle us) h = tt
       same mail parent child keeper stored id j other mine (Keeper f z us) h = absurd (other (sym h.0 ∙ mine))
       same mail parent child keeper stored id j other mine (Mailbox k p c) h = (h.0, parents p h.1, children c h.2)
@@ -150,20 +150,20 @@ module _ {W P Q : Type 0} (plain : P → Q) (asks : W → ℕ → List Q → Typ
       (inr (
         h.0,
         h.1,
-        subst (λ (z : Role Q). Knows (length blanks) r.mail own r.stored id (left_of z)) (sym is)
+        subst (λ (z : Role Q). KnowsRole (length blanks) r.mail own r.stored id (left_of z)) (sym is)
             (h.2.0, h.2.1, λ k low high. let t = h.2.2 k (omega arith) high in (put_else r.parent from new k (λ e. omega arith) ∙ t.0, put_else r.child from new k (λ e. omega arith) ∙ t.1, t.2)),
       ))
       (inr (
         h.0,
         h.1,
-        subst (λ (z : Role Q). Knows (length blanks) r.mail own r.stored new (right_of z)) (sym is)
+        subst (λ (z : Role Q). KnowsRole (length blanks) r.mail own r.stored new (right_of z)) (sym is)
             (inside, (put_here r.parent from new, fresh_sends), (put_here r.child from new, fresh_takes)),
       ))
       (λ j u other. ⊎_elim (λ (g : u ≡ spent). inl g)
-      (λ (t : (u.work ≡ Some work) × (u.blanks ≡ blanks) × Knows (length blanks) r.mail (owner_of r.parent r.child r.keeper) r.stored j u.role). inr (t.0, t.1, same j other u.role t.2)))
+      (λ (t : (u.work ≡ Some work) × (u.blanks ≡ blanks) × KnowsRole (length blanks) r.mail (owner_of r.parent r.child r.keeper) r.stored j u.role). inr (t.0, t.1, same j other u.role t.2)))
       ends
     where
-      h : (v.work ≡ Some work) × (v.blanks ≡ blanks) × Knows (length blanks) r.mail (owner_of r.parent r.child r.keeper) r.stored id (Keeper from st ws)
+      h : (v.work ≡ Some work) × (v.blanks ≡ blanks) × KnowsRole (length blanks) r.mail (owner_of r.parent r.child r.keeper) r.stored id (Keeper from st ws)
       h = knows plain asks answers work blanks s r id v (Keeper from st ws) at is tt
 
       new : ℕ
@@ -179,12 +179,12 @@ module _ {W P Q : Type 0} (plain : P → Q) (asks : W → ℕ → List Q → Typ
       mine = h.2.2 from (omega arith) inside
 
       fresh_sends : SendsAt (r.mail from) new_sender
-      fresh_sends = subst (λ (z : Mail Q). SendsAt z new_sender) (sym mine.2) record { place = refl; sent = refl; got = refl }
+      fresh_sends = subst (λ (z : MailboxState Q). SendsAt z new_sender) (sym mine.2) record { place = refl; sent = refl; got = refl }
 
       fresh_takes : TakesAt (r.mail from) new_taker
-      fresh_takes = subst (λ (z : Mail Q). TakesAt z new_taker) (sym mine.2) record { holds = λ e. absurd (cc); taken = refl; answered = refl }
+      fresh_takes = subst (λ (z : MailboxState Q). TakesAt z new_taker) (sym mine.2) record { holds = λ e. absurd (cc); taken = refl; answered = refl }
 
-      same : (j : ℕ) → j ≢ id → (role : Role Q) → Knows (length blanks) r.mail (owner_of r.parent r.child r.keeper) r.stored j role → Knows (length blanks) r.mail own r.stored j role
+      same : (j : ℕ) → j ≢ id → (role : Role Q) → KnowsRole (length blanks) r.mail (owner_of r.parent r.child r.keeper) r.stored j role → KnowsRole (length blanks) r.mail own r.stored j role
       same j other (Idle us) t = tt
       same j other (Keeper f z us) t = absurd (other (sym t.0 ∙ h.2.0))
       same j other (Mailbox k p c) t = (t.0, parents p t.1, children c t.2)

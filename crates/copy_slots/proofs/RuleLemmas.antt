@@ -11,7 +11,7 @@ use Rattle.copy_slots.specs.declared.view.Role.{Role}
 use Rattle.copy_slots.specs.declared.view.Role.TheVariants.{Idle, Keeper, Mailbox}
 use Rattle.copy_slots.specs.declared.view.View.{View}
 use Rattle.atomic_table.specs.Table.{State}
-use Rattle.copy_slots.specs.Mail.{Stage, fresh, with_parent, at_child, with_child, at_parent, Mail, End, parent_of, child_of, root, owner_of, IsAtStage, IsHeld, SendsAt, TakesAt, Knows, Has, IsEnd, BoxAt, Past, spent, Kept}
+use Rattle.copy_slots.specs.Mail.{MailStage, fresh, with_parent, at_child, with_child, at_parent, MailboxState, End, parent_of, child_of, root, owner_of, IsAtStage, HeldByChild, SendsAt, TakesAt, KnowsRole, Has, IsEnd, BoxAt, Past, spent, MailInvariant}
 use Rattle.copy_slots.specs.Ports.{stored_of}
 use Rattle.copy_slots.specs.Rule.{IsAtHome, IsInHand, SaysParent, SaysChild, IsRuled, HasView, ParentSays, ChildSays, Between}
 
@@ -40,18 +40,18 @@ none_there l e = ap length e
 
 -- ---- where a packet is, as its two ends know it
 
-place_at : Stage → PacketAt
+place_at : MailStage → PacketAt
 place_at fresh = Fresh
 place_at with_parent = Held
 place_at at_child = Out
 place_at with_child = Out
 place_at at_parent = Out
 
-holds_at : Stage → Bool
+holds_at : MailStage → Bool
 holds_at with_child = true
 holds_at _ = false
 
-place_is : (p : PacketAt) (g : Stage) → IsAtStage p g → p ≡ place_at g
+place_is : (p : PacketAt) (g : MailStage) → IsAtStage p g → p ≡ place_at g
 unfolding place_at
 place_is Fresh g h = ap place_at (sym h)
 place_is Held g h = ap place_at (sym h)
@@ -61,7 +61,7 @@ place_is Out at_child h = refl
 place_is Out with_child h = refl
 place_is Out at_parent h = refl
 
-holds_is : (b : Bool) (g : Stage) → IsHeld b g → b ≡ holds_at g
+holds_is : (b : Bool) (g : MailStage) → HeldByChild b g → b ≡ holds_at g
 unfolding holds_at
 holds_is true g h = ap holds_at (sym h)
 holds_is false with_child h = absurd (h refl)
@@ -86,23 +86,23 @@ false_true : false ≡ true → ⊥
 false_true e = cc
 
 module _ {W P Q : Type 0} (plain : P → Q) (asks : W → ℕ → List Q → Type 0) (answers : W → ℕ → List Q → Q → Type 0) (work : W) (blanks : List Q) where
-  abbrev sender_of : Stage → Mail Q → List ℕ → Sender Q
+  abbrev sender_of : MailStage → MailboxState Q → List ℕ → Sender Q
   sender_of g m l = record { place = place_at g; sent = m.sent; got = m.got; looked = l }
 
-  abbrev taker_of : Stage → Mail Q → List ℕ → Taker Q
+  abbrev taker_of : MailStage → MailboxState Q → List ℕ → Taker Q
   taker_of g m l = record { holds = holds_at g; taken = m.taken; answered = m.answered; looked = l }
 
-  ruled : (g : Stage) (k : ℕ) (m : Mail Q) (seen looked : List ℕ) (w : ℕ) (h : maybe.Option (maybe.Option (Option P))) → BoxAt plain asks answers work blanks g k m w h → Past plain asks answers work blanks k m
+  ruled : (g : MailStage) (k : ℕ) (m : MailboxState Q) (seen looked : List ℕ) (w : ℕ) (h : maybe.Option (maybe.Option (Option P))) → BoxAt plain asks answers work blanks g k m w h → Past plain asks answers work blanks k m
       → IsRuled plain asks answers work blanks k (sender_of g m seen) (taker_of g m looked) w h
   unfolding place_at holds_at
-  ruled fresh k m seen looked w h b past = let zero = b.word_is in let none_sent = ap (λ (z : Mail Q). z.sent) b.mail_is in record {
+  ruled fresh k m seen looked w h b past = let zero = b.word_is in let none_sent = ap (λ (z : MailboxState Q). z.sent) b.mail_is in record {
     word_is = omega arith;
     slot_is = inl (b.packet, b.home_is);
     parent_holds = (λ e. absurd (fresh_held e), λ t. absurd (home_or_hand h b.packet b.home_is t.1));
     child_holds = (λ e. absurd (false_true e), λ t. absurd (home_or_hand h b.packet b.home_is t.1));
     fresh = (λ e. (b.packet, b.home_is, none_sent), λ t. refl);
-    answered = λ _. (ap (λ (z : Mail Q). length z.sent) b.mail_is ∙ sym (ap (λ (z : Mail Q). length z.answered) b.mail_is), ap (λ (z : Mail Q). z.taken) b.mail_is ∙ sym none_sent);
-    rests = λ _ p e. inl (none_sent, ap (λ (z : Mail Q). z.got) b.mail_is, b.blank ∙ ap (λ (z : P). Some (plain z)) (same_home h b.packet p b.home_is e));
+    answered = λ _. (ap (λ (z : MailboxState Q). length z.sent) b.mail_is ∙ sym (ap (λ (z : MailboxState Q). length z.answered) b.mail_is), ap (λ (z : MailboxState Q). z.taken) b.mail_is ∙ sym none_sent);
+    rests = λ _ p e. inl (none_sent, ap (λ (z : MailboxState Q). z.got) b.mail_is, b.blank ∙ ap (λ (z : P). Some (plain z)) (same_home h b.packet p b.home_is e));
     held = λ _ e. absurd (home_or_hand h b.packet b.home_is e);
     out = λ e. absurd (omega arith);
     waits = λ e p f. absurd (omega arith);
@@ -182,29 +182,29 @@ module _ {W P Q : Type 0} (plain : P → Q) (asks : W → ℕ → List Q → Typ
   }
 
   -- what is said of the two ends agrees with the lists of the mailbox
-  ruled_as_said : (k : ℕ) (m : Mail Q) (x : Sender Q) (y : Taker Q) (w : ℕ) (h : maybe.Option (maybe.Option (Option P))) → BoxAt plain asks answers work blanks m.stage k m w h → Past plain asks answers work blanks k m
+  ruled_as_said : (k : ℕ) (m : MailboxState Q) (x : Sender Q) (y : Taker Q) (w : ℕ) (h : maybe.Option (maybe.Option (Option P))) → BoxAt plain asks answers work blanks m.stage k m w h → Past plain asks answers work blanks k m
       → SendsAt m x → TakesAt m y → IsRuled plain asks answers work blanks k x y w h
   ruled_as_said k m x y w h b past sends takes_ =
       let parent : sender_of m.stage m x.looked ≡ x = λ i. record { place = sym (place_is x.place m.stage sends.place) i; sent = sym sends.sent i; got = sym sends.got i; looked = x.looked } in
       let child : taker_of m.stage m y.looked ≡ y = λ i. record { holds = sym (holds_is y.holds m.stage takes_.holds) i; taken = sym takes_.taken i; answered = sym takes_.answered i; looked = y.looked } in
       subst (λ (z : Sender Q × Taker Q). IsRuled plain asks answers work blanks k z.0 z.1 w h) (λ i. (parent i, child i)) (ruled m.stage k m x.looked y.looked w h b past)
 
-  sends_at : (mail : ℕ → Mail Q) (owner : End → ℕ) (stored : Bool) (j : ℕ) (role : Role Q) (k : ℕ) (x : Sender Q) → k < length blanks → Knows (length blanks) mail owner stored j role → SaysParent role k x → SendsAt (mail k) x
+  sends_at : (mail : ℕ → MailboxState Q) (owner : End → ℕ) (stored : Bool) (j : ℕ) (role : Role Q) (k : ℕ) (x : Sender Q) → k < length blanks → KnowsRole (length blanks) mail owner stored j role → SaysParent role k x → SendsAt (mail k) x
   sends_at mail owner stored j (Idle ws) k x near knows says = absurd says
   sends_at mail owner stored j (Keeper from st ws) k x near knows says =
-      subst (λ (z : Mail Q × Sender Q). SendsAt z.0 z.1) (λ i. (sym (knows.2 k says.0 near).2 i, sym says.1 i)) (record { place = refl; sent = refl; got = refl })
+      subst (λ (z : MailboxState Q × Sender Q). SendsAt z.0 z.1) (λ i. (sym (knows.2 k says.0 near).2 i, sym says.1 i)) (record { place = refl; sent = refl; got = refl })
   sends_at mail owner stored j (Mailbox i None c) k x near knows says = absurd (not_none x says.1)
   sends_at mail owner stored j (Mailbox i (Some z) c) k x near knows says = subst (λ (q : ℕ × Sender Q). SendsAt (mail q.0) q.1) (λ l. (says.0 l, some_is z x says.1 l)) knows.1.1
 
-  takes_at : (mail : ℕ → Mail Q) (owner : End → ℕ) (stored : Bool) (j : ℕ) (role : Role Q) (k : ℕ) (y : Taker Q) → k < length blanks → Knows (length blanks) mail owner stored j role → SaysChild role k y → TakesAt (mail k) y
+  takes_at : (mail : ℕ → MailboxState Q) (owner : End → ℕ) (stored : Bool) (j : ℕ) (role : Role Q) (k : ℕ) (y : Taker Q) → k < length blanks → KnowsRole (length blanks) mail owner stored j role → SaysChild role k y → TakesAt (mail k) y
   takes_at mail owner stored j (Idle ws) k y near knows says = absurd says
   takes_at mail owner stored j (Keeper from st ws) k y near knows says =
-      subst (λ (z : Mail Q × Taker Q). TakesAt z.0 z.1) (λ i. (sym (knows.2 k says.0 near).2 i, sym says.1 i)) (record { holds = λ e. cc; taken = refl; answered = refl })
+      subst (λ (z : MailboxState Q × Taker Q). TakesAt z.0 z.1) (λ i. (sym (knows.2 k says.0 near).2 i, sym says.1 i)) (record { holds = λ e. cc; taken = refl; answered = refl })
   takes_at mail owner stored j (Mailbox i p None) k y near knows says = absurd (not_none y says.1)
   takes_at mail owner stored j (Mailbox i p (Some z)) k y near knows says = subst (λ (q : ℕ × Taker Q). TakesAt (mail q.0) q.1) (λ l. (says.0 l, some_is z y says.1 l)) knows.2.1
 
   -- a seat that has an end is the one that the rule names
-  owns : (mail : ℕ → Mail Q) (owner : End → ℕ) (stored : Bool) (j : ℕ) (role : Role Q) (e : End) → IsEnd (length blanks) e → Knows (length blanks) mail owner stored j role → Has role e → owner e ≡ j
+  owns : (mail : ℕ → MailboxState Q) (owner : End → ℕ) (stored : Bool) (j : ℕ) (role : Role Q) (e : End) → IsEnd (length blanks) e → KnowsRole (length blanks) mail owner stored j role → Has role e → owner e ≡ j
   owns mail owner stored j (Idle ws) e inside knows has = absurd has
   owns mail owner stored j (Keeper from st ws) (parent_of k) inside knows has = (knows.2 k has inside).0
   owns mail owner stored j (Keeper from st ws) (child_of k) inside knows has = (knows.2 k has inside).1
@@ -218,17 +218,17 @@ module _ {W P Q : Type 0} (plain : P → Q) (asks : W → ℕ → List Q → Typ
   no_end : (e : End) → Has {Q = Q} (Idle []) e → ⊥
   no_end e has = has
 
-  stored_is : (mail : ℕ → Mail Q) (owner : End → ℕ) (stored : Bool) (j : ℕ) (role : Role Q) → Knows (length blanks) mail owner stored j role → Has role root → stored_of role ≡ stored
+  stored_is : (mail : ℕ → MailboxState Q) (owner : End → ℕ) (stored : Bool) (j : ℕ) (role : Role Q) → KnowsRole (length blanks) mail owner stored j role → Has role root → stored_of role ≡ stored
   stored_is mail owner stored j (Idle ws) knows has = absurd has
   stored_is mail owner stored j (Keeper from st ws) knows has = knows.1
   stored_is mail owner stored j (Mailbox i p c) knows has = absurd has
 
-  module _ (s : State (Option P) (View W Q)) (r : Kept plain asks answers work blanks s) where
+  module _ (s : State (Option P) (View W Q)) (r : MailInvariant plain asks answers work blanks s) where
     abbrev owner : End → ℕ
     owner = owner_of r.parent r.child r.keeper
 
     abbrev Known : ℕ → View W Q → Type 0
-    Known j v = (v.work ≡ Some work) × (v.blanks ≡ blanks) × Knows (length blanks) r.mail owner r.stored j v.role
+    Known j v = (v.work ≡ Some work) × (v.blanks ≡ blanks) × KnowsRole (length blanks) r.mail owner r.stored j v.role
 
     known : (j : ℕ) (v : View W Q) → HasView s j v → Known j v
     known j v h = ⊎_elim (λ (g : v ≡ spent). absurd (h.live g)) (λ (q : Known j v). q) (r.each_view j v h.at)

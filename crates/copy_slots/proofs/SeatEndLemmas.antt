@@ -11,7 +11,7 @@ use Rattle.copy_slots.specs.declared.view.Role.{Role}
 use Rattle.copy_slots.specs.declared.view.Role.TheVariants.{Mailbox}
 use Rattle.copy_slots.specs.declared.view.View.{View}
 use Rattle.copy_slots.specs.Mail.{posed, spent}
-use Rattle.copy_slots.specs.SeatEnds.{hand_in, hand_if, parent_hand, child_hand, hand, Sits, Watches}
+use Rattle.copy_slots.specs.SeatEnds.{hand_in, hand_if, parent_hand, child_hand, hand, HasEnds, Watches}
 
 module _ {Q : Type 0} where
   abbrev place_of : Role Q → PacketAt
@@ -23,30 +23,30 @@ module _ {Q : Type 0} where
   holds_of r = false
 
 module _ {W P Q : Type 0} where
-  pub role_is : (z : TableId) (work : W) (blanks : List Q) (k : ℕ) (p : Option (Sender Q)) (c : Option (Taker Q)) (s : Seat (Option P) (View W Q)) → Sits z work blanks k p c s → s.me.0.role ≡ Mailbox k p c
+  pub role_is : (z : TableId) (work : W) (blanks : List Q) (k : ℕ) (p : Option (Sender Q)) (c : Option (Taker Q)) (s : Seat (Option P) (View W Q)) → HasEnds z work blanks k p c s → s.me.0.role ≡ Mailbox k p c
   role_is z work blanks k p c s h = ap (λ (m : Me (Option P) (View W Q)). m.0.role) h.me
 
-  pub work_is : (z : TableId) (work : W) (blanks : List Q) (k : ℕ) (p : Option (Sender Q)) (c : Option (Taker Q)) (s : Seat (Option P) (View W Q)) → Sits z work blanks k p c s → s.me.0.work ≡ Some work
+  pub work_is : (z : TableId) (work : W) (blanks : List Q) (k : ℕ) (p : Option (Sender Q)) (c : Option (Taker Q)) (s : Seat (Option P) (View W Q)) → HasEnds z work blanks k p c s → s.me.0.work ≡ Some work
   work_is z work blanks k p c s h = ap (λ (m : Me (Option P) (View W Q)). m.0.work) h.me
 
-  pub one_place : (z : TableId) (work : W) (blanks blanks' : List Q) (k : ℕ) (x x' : Sender Q) (c c' : Option (Taker Q)) (s : Seat (Option P) (View W Q)) → Sits z work blanks k (Some x) c s → Sits z work blanks' k (Some x') c' s → x.place ≡ x'.place
+  pub one_place : (z : TableId) (work : W) (blanks blanks' : List Q) (k : ℕ) (x x' : Sender Q) (c c' : Option (Taker Q)) (s : Seat (Option P) (View W Q)) → HasEnds z work blanks k (Some x) c s → HasEnds z work blanks' k (Some x') c' s → x.place ≡ x'.place
   one_place z work blanks blanks' k x x' c c' s h h' = ap place_of (sym (role_is z work blanks k (Some x) c s h) ∙ role_is z work blanks' k (Some x') c' s h')
 
-  pub one_hand : (z : TableId) (work : W) (blanks blanks' : List Q) (k : ℕ) (y y' : Taker Q) (b b' : Option (Sender Q)) (s : Seat (Option P) (View W Q)) → Sits z work blanks k b (Some y) s → Sits z work blanks' k b' (Some y') s → y.holds ≡ y'.holds
+  pub one_hand : (z : TableId) (work : W) (blanks blanks' : List Q) (k : ℕ) (y y' : Taker Q) (b b' : Option (Sender Q)) (s : Seat (Option P) (View W Q)) → HasEnds z work blanks k b (Some y) s → HasEnds z work blanks' k b' (Some y') s → y.holds ≡ y'.holds
   one_hand z work blanks blanks' k y y' b b' s h h' = ap holds_of (sym (role_is z work blanks k b (Some y) s h) ∙ role_is z work blanks' k b' (Some y') s h')
 
   -- the packet of k comes into a hand, at a look and an exchange
-  pub comes : (z : TableId) (work : W) (blanks : List Q) (k : ℕ) (p p' : Option (Sender Q)) (c c' : Option (Taker Q)) (s t u : Seat (Option P) (View W Q)) (q : Option P) → Sits z work blanks k p c s
+  pub comes : (z : TableId) (work : W) (blanks : List Q) (k : ℕ) (p p' : Option (Sender Q)) (c c' : Option (Taker Q)) (s t u : Seat (Option P) (View W Q)) (q : Option P) → HasEnds z work blanks k p c s
       → t.table_id ≡ s.table_id → t.me.0 ≡ posed s.me.0 (Mailbox k p' c') → t.me.1 ≡ (k, q) ∷ s.me.1 → u.table_id ≡ t.table_id → u.me ≡ (t.me.0, (k, None) ∷ rest t.me.1)
-      → (k, None) ∷ hand p c k ≡ hand {P = P} p' c' k → Sits z work blanks k p' c' u
+      → (k, None) ∷ hand p c k ≡ hand {P = P} p' c' k → HasEnds z work blanks k p' c' u
   comes z work blanks k p p' c c' s t u q h id view carried id' me hands = record {
     table = id' ∙ (id ∙ h.table);
     me = me ∙ (λ i. ((view ∙ ap (λ (m : Me (Option P) (View W Q)). posed m.0 (Mailbox k p' c')) h.me) i, (ap (λ (l : List (ℕ × Option P)). (k, None) ∷ rest l) carried ∙ (ap (λ (m : Me (Option P) (View W Q)). (k, None) ∷ m.1) h.me ∙ hands)) i));
   }
 
   -- the packet of k leaves a hand, at an exchange and a store
-  pub goes : (z : TableId) (work : W) (blanks : List Q) (k : ℕ) (p p' : Option (Sender Q)) (c c' : Option (Taker Q)) (s t u : Seat (Option P) (View W Q)) → Sits z work blanks k p c s
-      → t.table_id ≡ s.table_id → t.me.0 ≡ s.me.0 → u.table_id ≡ t.table_id → u.me.0 ≡ posed t.me.0 (Mailbox k p' c') → u.me.1 ≡ hand p' c' k → Sits z work blanks k p' c' u
+  pub goes : (z : TableId) (work : W) (blanks : List Q) (k : ℕ) (p p' : Option (Sender Q)) (c c' : Option (Taker Q)) (s t u : Seat (Option P) (View W Q)) → HasEnds z work blanks k p c s
+      → t.table_id ≡ s.table_id → t.me.0 ≡ s.me.0 → u.table_id ≡ t.table_id → u.me.0 ≡ posed t.me.0 (Mailbox k p' c') → u.me.1 ≡ hand p' c' k → HasEnds z work blanks k p' c' u
   goes z work blanks k p p' c c' s t u h id view id' view' carried = record {
     table = id' ∙ (id ∙ h.table);
     me = λ i. ((view' ∙ (ap (λ (v : View W Q). posed v (Mailbox k p' c')) view ∙ ap (λ (m : Me (Option P) (View W Q)). posed m.0 (Mailbox k p' c')) h.me)) i, carried i);

@@ -13,8 +13,8 @@ use Rattle.copy_slots.specs.declared.view.Role.TheVariants.{Idle, Keeper, Mailbo
 use Rattle.copy_slots.specs.Mail.{role_checked, role_stopped, new_sender, new_taker}
 use Rattle.copy_slots.specs.Fresh.{AllFresh, AllSit, fresh_ends, new_state}
 use Rattle.copy_slots.specs.declared.both.BothEnds.{BothEnds}
-use Rattle.copy_slots.specs.SeatEnds.{Sits, Watches}
-use Rattle.copy_slots.specs.Ports.{PortState, local_state, Ends, parent_at, child_at, on_parent, on_child, IsParent, IsChild, ends_of, sender_in, taker_in, root_of, after_check, stop_word, after_stop}
+use Rattle.copy_slots.specs.SeatEnds.{HasEnds, Watches}
+use Rattle.copy_slots.specs.Ports.{PortState, local_state, MailboxEnds, parent_at, child_at, on_parent, on_child, IsParent, IsChild, ends_of, sender_in, taker_in, is_keeper, after_check, stop_word, after_stop}
 use Rattle.copy_slots.proofs.SeatEndLemmas.{role_is}
 
 pub set_cases : {A : Type 0} (l : List A) (k j : ℕ) (a b : A) → slice_get (set l k a) j ≡ Some b → ((j ≡ k) × (a ≡ b)) ⊎ (slice_get l j ≡ Some b)
@@ -28,7 +28,7 @@ pub at_index : {A : Type 0} (l : List A) (k : ℕ) (a : A) → k < length l → 
 at_index l k a h e = slice_get-get_or l k a h ∙ ap Some (sym e)
 
 module _ {A Q : Type 0} (f : A → Role Q) where
-  abbrev pub ends_in : List A → List (Ends Q)
+  abbrev pub ends_in : List A → List (MailboxEnds Q)
   ends_in l = map ends_of (map f l)
 
   pub parent_inside : (l : List A) (k : ℕ) (p : PacketAt) → IsParent (parent_at (ends_in l) k) p → k < length l
@@ -66,11 +66,11 @@ module _ {A Q : Type 0} (f : A → Role Q) where
   child_moved (h ∷ l) (suc k) j a b y g p e is is' = ap (λ t. ends_of (f h) ∷ t) (child_moved l k j a b y g p e is is')
 
 module _ {W P Q : Type 0} (z : TableId) (work : W) (blanks : List Q) where
-  pub resits : (l : List (BothEnds W P Q)) (k : ℕ) (b : BothEnds W P Q) (x : Sender Q) (y : Taker Q) → AllSit z work blanks l → Sits z work blanks k (Some x) (Some y) b.seat → AllSit z work blanks (set l k b)
+  pub resits : (l : List (BothEnds W P Q)) (k : ℕ) (b : BothEnds W P Q) (x : Sender Q) (y : Taker Q) → AllSit z work blanks l → HasEnds z work blanks k (Some x) (Some y) b.seat → AllSit z work blanks (set l k b)
   resits l k b x y all h j s e = ⊎_elim
       (λ (t : (j ≡ k) × (b ≡ s)). let role = role_is z work blanks k (Some x) (Some y) b.seat h in
-      subst (λ (q : ℕ × BothEnds W P Q). Sits z work blanks q.0 (Some (sender_in q.1.seat.me.0.role)) (Some (taker_in q.1.seat.me.0.role)) q.1.seat) (λ i. (sym t.0 i, t.1 i))
-      (subst (λ (q : Sender Q × Taker Q). Sits z work blanks k (Some q.0) (Some q.1) b.seat) (λ i. (sym (ap sender_in role) i, sym (ap taker_in role) i)) h))
+      subst (λ (q : ℕ × BothEnds W P Q). HasEnds z work blanks q.0 (Some (sender_in q.1.seat.me.0.role)) (Some (taker_in q.1.seat.me.0.role)) q.1.seat) (λ i. (sym t.0 i, t.1 i))
+      (subst (λ (q : Sender Q × Taker Q). HasEnds z work blanks k (Some q.0) (Some q.1) b.seat) (λ i. (sym (ap sender_in role) i, sym (ap taker_in role) i)) h))
       (λ t. all j s t) (set_cases l k j b s e)
 
 module _ {W A Q : Type 0} (f : A → Role Q) (work : W) (blanks : List Q) (watch : Role Q) where
@@ -79,34 +79,34 @@ module _ {W A Q : Type 0} (f : A → Role Q) (work : W) (blanks : List Q) (watch
 
   pub parent_state : (l : List A) (k j : ℕ) (a b : A) (x : Sender Q) (g : Sender Q → Sender Q) (c : Option (Taker Q)) → slice_get l k ≡ Some a → f a ≡ Mailbox j (Some x) c → f b ≡ Mailbox j (Some (g x)) c
       → state_of (set l k b) ≡ record (state_of l) { ends = on_parent (ends_in f l) k g }
-  parent_state l k j a b x g c e is is' = ap (λ (es : List (Ends Q)). let s : PortState W Q = record (state_of l) { ends = es } in s) (parent_moved f l k j a b x g c e is is')
+  parent_state l k j a b x g c e is is' = ap (λ (es : List (MailboxEnds Q)). let s : PortState W Q = record (state_of l) { ends = es } in s) (parent_moved f l k j a b x g c e is is')
 
   pub child_state : (l : List A) (k j : ℕ) (a b : A) (y : Taker Q) (g : Taker Q → Taker Q) (p : Option (Sender Q)) → slice_get l k ≡ Some a → f a ≡ Mailbox j p (Some y) → f b ≡ Mailbox j p (Some (g y))
       → state_of (set l k b) ≡ record (state_of l) { ends = on_child (ends_in f l) k g }
-  child_state l k j a b y g p e is is' = ap (λ (es : List (Ends Q)). let s : PortState W Q = record (state_of l) { ends = es } in s) (child_moved f l k j a b y g p e is is')
+  child_state l k j a b y g p e is is' = ap (λ (es : List (MailboxEnds Q)). let s : PortState W Q = record (state_of l) { ends = es } in s) (child_moved f l k j a b y g p e is is')
 
 module _ {W Q : Type 0} (work : W) (blanks : List Q) (roles : List (Role Q)) where
-  pub root_checked : (w : ℕ) (role : Role Q) → root_of role ≡ true → root_of (role_checked w role) ≡ true
+  pub root_checked : (w : ℕ) (role : Role Q) → is_keeper role ≡ true → is_keeper (role_checked w role) ≡ true
   root_checked w (Idle ws) e = e
   root_checked w (Keeper from st ws) e = refl
   root_checked w (Mailbox k p c) e = e
 
-  pub root_stopped : (role : Role Q) → root_of role ≡ true → root_of (role_stopped role) ≡ true
+  pub root_stopped : (role : Role Q) → is_keeper role ≡ true → is_keeper (role_stopped role) ≡ true
   root_stopped (Idle ws) e = e
   root_stopped (Keeper from st ws) e = refl
   root_stopped (Mailbox k p c) e = e
 
-  pub keeper_is : (role : Role Q) → root_of role ≡ true → (from : ℕ) × (st : Bool) × (ws : List ℕ) × (role ≡ Keeper from st ws)
+  pub keeper_is : (role : Role Q) → is_keeper role ≡ true → (from : ℕ) × (st : Bool) × (ws : List ℕ) × (role ≡ Keeper from st ws)
   keeper_is (Idle ws) e = absurd (cc)
   keeper_is (Keeper from st ws) e = (from, st, ws, refl)
   keeper_is (Mailbox k p c) e = absurd (cc)
 
-  pub checked_state : (stopped : Bool) (role : Role Q) → root_of role ≡ true → local_state work blanks roles (role_checked (stop_word stopped) role) ≡ after_check stopped (local_state work blanks roles role)
+  pub checked_state : (stopped : Bool) (role : Role Q) → is_keeper role ≡ true → local_state work blanks roles (role_checked (stop_word stopped) role) ≡ after_check stopped (local_state work blanks roles role)
   checked_state w (Idle ws) e = absurd (cc)
   checked_state w (Keeper from st ws) e = refl
   checked_state w (Mailbox k p c) e = absurd (cc)
 
-  pub stopped_state : (role : Role Q) → root_of role ≡ true → local_state work blanks roles (role_stopped role) ≡ after_stop (local_state work blanks roles role)
+  pub stopped_state : (role : Role Q) → is_keeper role ≡ true → local_state work blanks roles (role_stopped role) ≡ after_stop (local_state work blanks roles role)
   stopped_state (Idle ws) e = absurd (cc)
   stopped_state (Keeper from st ws) e = refl
   stopped_state (Mailbox k p c) e = absurd (cc)
@@ -123,9 +123,9 @@ snoc_cases (x ∷ xs) a b zero e = inr e
 snoc_cases (x ∷ xs) a b (suc j) e = ⊎_elim (λ t. inl (ap suc t.0, t.1)) (λ t. inr t) (snoc_cases xs a b j e)
 
 module _ {W P Q : Type 0} (z : TableId) (work : W) (blanks : List Q) where
-  pub fresh_more : (l : List (BothEnds W P Q)) (k : ℕ) (b : BothEnds W P Q) → length l ≡ k → AllFresh z work blanks l → Sits z work blanks k (Some new_sender) (Some new_taker) b.seat → AllFresh z work blanks (l ++ b ∷ [])
+  pub fresh_more : (l : List (BothEnds W P Q)) (k : ℕ) (b : BothEnds W P Q) → length l ≡ k → AllFresh z work blanks l → HasEnds z work blanks k (Some new_sender) (Some new_taker) b.seat → AllFresh z work blanks (l ++ b ∷ [])
   fresh_more l k b long all h j s e = ⊎_elim
-      (λ (t : (j ≡ length l) × (b ≡ s)). subst (λ (q : ℕ × BothEnds W P Q). Sits z work blanks q.0 (Some new_sender) (Some new_taker) q.1.seat) (λ i. (sym (t.0 ∙ long) i, t.1 i)) h)
+      (λ (t : (j ≡ length l) × (b ≡ s)). subst (λ (q : ℕ × BothEnds W P Q). HasEnds z work blanks q.0 (Some new_sender) (Some new_taker) q.1.seat) (λ i. (sym (t.0 ∙ long) i, t.1 i)) h)
       (λ t. all j s t) (snoc_cases l b s j e)
 
 all_same : {A B C : Type 0} (f : A → B) (v : B) (l : List A) (m : List C) → length l ≡ length m → ((j : ℕ) (s : A) → slice_get l j ≡ Some s → f s ≡ v) → map f l ≡ map (λ (x : C). v) m
@@ -141,10 +141,10 @@ map_map f g (x ∷ l) = ap (λ t. g (f x) ∷ t) (map_map f g l)
 module _ {W P Q : Type 0} (plain : P → Q) (z : TableId) (work : W) (packets : List P) where
   pub fresh_sits : (l : List (BothEnds W P Q)) → AllFresh z work (map plain packets) l → AllSit z work (map plain packets) l
   fresh_sits l h j s e = let role = role_is z work (map plain packets) j (Some new_sender) (Some new_taker) s.seat (h j s e) in
-      subst (λ (q : Sender Q × Taker Q). Sits z work (map plain packets) j (Some q.0) (Some q.1) s.seat) (λ i. (sym (ap sender_in role) i, sym (ap taker_in role) i)) (h j s e)
+      subst (λ (q : Sender Q × Taker Q). HasEnds z work (map plain packets) j (Some q.0) (Some q.1) s.seat) (λ i. (sym (ap sender_in role) i, sym (ap taker_in role) i)) (h j s e)
 
   pub fresh_state : (l : List (BothEnds W P Q)) (n : ℕ) → length l ≡ length packets → AllFresh z work (map plain packets) l
       → local_state work (map plain packets) (map (λ (b : BothEnds W P Q). b.seat.me.0.role) l) (Keeper n false []) ≡ new_state plain work packets
-  fresh_state l n long h = ap (λ (es : List (Ends Q)). let s : PortState W Q = record { board = None; work = work; blanks = map plain packets; ends = es; tells = true; root = true; stored = false; stops = [] } in s)
+  fresh_state l n long h = ap (λ (es : List (MailboxEnds Q)). let s : PortState W Q = record { board = None; work = work; blanks = map plain packets; ends = es; tells = true; root = true; stored = false; stops = [] } in s)
       (map_map (λ (b : BothEnds W P Q). b.seat.me.0.role) ends_of l ∙ all_same (λ (b : BothEnds W P Q). ends_of b.seat.me.0.role) fresh_ends l packets long
       (λ j s e. ap ends_of (role_is z work (map plain packets) j (Some new_sender) (Some new_taker) s.seat (h j s e))))

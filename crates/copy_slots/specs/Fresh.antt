@@ -3,20 +3,20 @@ use Rattle.std.specs.Prelude.{◌≡◌, ℕ, List, [], map, slice_get, Some, No
 use Rattle.atomic_table.specs.Seated.{TableId}
 use Rattle.copy_slots.specs.declared.both.BothEnds.{BothEnds}
 use Rattle.copy_slots.specs.Mail.{new_sender, new_taker}
-use Rattle.copy_slots.specs.SeatEnds.{Sits}
-use Rattle.copy_slots.specs.Ports.{Ends, PortState, sender_in, taker_in}
+use Rattle.copy_slots.specs.SeatEnds.{HasEnds}
+use Rattle.copy_slots.specs.Ports.{MailboxEnds, PortState, sender_in, taker_in}
 
 -- each seat has both ends of its mailbox, and nothing was done there
 module _ {W P Q : Type 0} where
   abbrev pub AllFresh : TableId → W → List Q → List (BothEnds W P Q) → Type 0
-  AllFresh z work blanks l = (j : ℕ) (s : BothEnds W P Q) → slice_get l j ≡ Some s → Sits z work blanks j (Some new_sender) (Some new_taker) s.seat
+  AllFresh z work blanks l = (j : ℕ) (s : BothEnds W P Q) → slice_get l j ≡ Some s → HasEnds z work blanks j (Some new_sender) (Some new_taker) s.seat
 
 -- each seat has both ends of its mailbox, by its own view
 module _ {W P Q : Type 0} where
   abbrev pub AllSit : TableId → W → List Q → List (BothEnds W P Q) → Type 0
-  AllSit z work blanks l = (k : ℕ) (s : BothEnds W P Q) → slice_get l k ≡ Some s → Sits z work blanks k (Some (sender_in s.seat.me.0.role)) (Some (taker_in s.seat.me.0.role)) s.seat
+  AllSit z work blanks l = (k : ℕ) (s : BothEnds W P Q) → slice_get l k ≡ Some s → HasEnds z work blanks k (Some (sender_in s.seat.me.0.role)) (Some (taker_in s.seat.me.0.role)) s.seat
 
-abbrev pub fresh_ends : {Q : Type 0} → Ends Q
+abbrev pub fresh_ends : {Q : Type 0} → MailboxEnds Q
 fresh_ends = record { parent = Some new_sender; child = Some new_taker }
 
 -- a port with all ends, before its first call

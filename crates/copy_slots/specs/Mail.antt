@@ -13,26 +13,26 @@ use Rattle.copy_slots.specs.declared.view.Role.TheVariants.{Idle, Keeper, Mailbo
 use Rattle.copy_slots.specs.declared.view.View.{View}
 
 -- where the packet of a mailbox is
-pub data Stage : Type 0 where
+pub data MailStage : Type 0 where
   -- in its slot, and nothing was sent
-  fresh : Stage
+  fresh : MailStage
   -- in the parent's hand
-  with_parent : Stage
+  with_parent : MailStage
   -- in its slot, as a job
-  at_child : Stage
+  at_child : MailStage
   -- in the child's hand
-  with_child : Stage
+  with_child : MailStage
   -- in its slot, as a reply
-  at_parent : Stage
+  at_parent : MailStage
 
-pub record Mail (Q : Type 0) : Type 0 where
-  pub stage : Stage
+pub record MailboxState (Q : Type 0) : Type 0 where
+  pub stage : MailStage
   pub sent : List Q
   pub got : List Q
   pub taken : List Q
   pub answered : List Q
 
-abbrev pub untouched : {Q : Type 0} → Mail Q
+abbrev pub untouched : {Q : Type 0} → MailboxState Q
 untouched = record { stage = fresh; sent = []; got = []; taken = []; answered = [] }
 
 abbrev pub plain_list : {P Q : Type 0} → (P → Q) → List P → List Q
@@ -50,33 +50,33 @@ owner_of parent child keeper (parent_of k) = parent k
 owner_of parent child keeper (child_of k) = child k
 owner_of parent child keeper root = keeper
 
-abbrev pub IsOut : Stage → Type 0
-IsOut at_child = Unit {0}
-IsOut with_child = Unit {0}
-IsOut at_parent = Unit {0}
-IsOut _ = ⊥
+abbrev pub IsUnderWay : MailStage → Type 0
+IsUnderWay at_child = Unit {0}
+IsUnderWay with_child = Unit {0}
+IsUnderWay at_parent = Unit {0}
+IsUnderWay _ = ⊥
 
-abbrev pub IsAtStage : PacketAt → Stage → Type 0
+abbrev pub IsAtStage : PacketAt → MailStage → Type 0
 IsAtStage Fresh g = g ≡ fresh
 IsAtStage Held g = g ≡ with_parent
-IsAtStage Out g = IsOut g
+IsAtStage Out g = IsUnderWay g
 
-abbrev pub IsHeld : Bool → Stage → Type 0
-IsHeld true g = g ≡ with_child
-IsHeld false g = g ≢ with_child
+abbrev pub HeldByChild : Bool → MailStage → Type 0
+HeldByChild true g = g ≡ with_child
+HeldByChild false g = g ≢ with_child
 
 module _ {Q : Type 0} where
-  pub record SendsAt (m : Mail Q) (x : Sender Q) : Type 0 where
+  pub record SendsAt (m : MailboxState Q) (x : Sender Q) : Type 0 where
     pub place : IsAtStage x.place m.stage
     pub sent : x.sent ≡ m.sent
     pub got : x.got ≡ m.got
 
-  pub record TakesAt (m : Mail Q) (y : Taker Q) : Type 0 where
-    pub holds : IsHeld y.holds m.stage
+  pub record TakesAt (m : MailboxState Q) (y : Taker Q) : Type 0 where
+    pub holds : HeldByChild y.holds m.stage
     pub taken : y.taken ≡ m.taken
     pub answered : y.answered ≡ m.answered
 
-  module _ (n : ℕ) (mail : ℕ → Mail Q) (owner : End → ℕ) (stored : Bool) (j : ℕ) where
+  module _ (n : ℕ) (mail : ℕ → MailboxState Q) (owner : End → ℕ) (stored : Bool) (j : ℕ) where
     abbrev pub KnowsParent : ℕ → Option (Sender Q) → Type 0
     KnowsParent k None = Unit {0}
     KnowsParent k (Some x) = (owner (parent_of k) ≡ j) × SendsAt (mail k) x
@@ -85,10 +85,10 @@ module _ {Q : Type 0} where
     KnowsChild k None = Unit {0}
     KnowsChild k (Some y) = (owner (child_of k) ≡ j) × TakesAt (mail k) y
 
-    abbrev pub Knows : Role Q → Type 0
-    Knows (Idle ws) = Unit {0}
-    Knows (Keeper from st ws) = (owner root ≡ j) × (st ≡ stored) × ((k : ℕ) → from ≤ k → k < n → (owner (parent_of k) ≡ j) × (owner (child_of k) ≡ j) × (mail k ≡ untouched))
-    Knows (Mailbox k p c) = (k < n) × KnowsParent k p × KnowsChild k c
+    abbrev pub KnowsRole : Role Q → Type 0
+    KnowsRole (Idle ws) = Unit {0}
+    KnowsRole (Keeper from st ws) = (owner root ≡ j) × (st ≡ stored) × ((k : ℕ) → from ≤ k → k < n → (owner (parent_of k) ≡ j) × (owner (child_of k) ≡ j) × (mail k ≡ untouched))
+    KnowsRole (Mailbox k p c) = (k < n) × KnowsParent k p × KnowsChild k c
 
   abbrev pub Has : Role Q → End → Type 0
   Has (Idle ws) e = ⊥
@@ -109,21 +109,21 @@ spent = record { work = None; blanks = []; role = Idle [] }
 
 -- the turn word, and what the slot has: the packet, or nothing while it is in a hand
 module _ {W P Q : Type 0} (plain : P → Q) (asks : W → ℕ → List Q → Type 0) (answers : W → ℕ → List Q → Q → Type 0) (work : W) (blanks : List Q) where
-  pub record IsFresh (k : ℕ) (m : Mail Q) (word : ℕ) (home : maybe.Option (maybe.Option (Option P))) : Type 0 where
+  pub record IsFresh (k : ℕ) (m : MailboxState Q) (word : ℕ) (home : maybe.Option (maybe.Option (Option P))) : Type 0 where
     pub packet : P
     pub word_is : word ≡ 0
     pub home_is : home ≡ some (some (Some packet))
     pub blank : slice_get blanks k ≡ Some (plain packet)
     pub mail_is : m ≡ untouched
 
-  pub record IsWithParent (k : ℕ) (m : Mail Q) (word : ℕ) (home : maybe.Option (maybe.Option (Option P))) : Type 0 where
+  pub record IsWithParent (k : ℕ) (m : MailboxState Q) (word : ℕ) (home : maybe.Option (maybe.Option (Option P))) : Type 0 where
     pub word_is : word ≡ 0
     pub home_is : home ≡ some none
     pub taken : m.taken ≡ m.sent
     pub got : m.got ≡ m.answered
     pub counts : length m.answered ≡ length m.sent
 
-  pub record IsAtChild (k : ℕ) (m : Mail Q) (word : ℕ) (home : maybe.Option (maybe.Option (Option P))) : Type 0 where
+  pub record IsAtChild (k : ℕ) (m : MailboxState Q) (word : ℕ) (home : maybe.Option (maybe.Option (Option P))) : Type 0 where
     pub packet : P
     pub word_is : word ≡ 1
     pub home_is : home ≡ some (some (Some packet))
@@ -132,14 +132,14 @@ module _ {W P Q : Type 0} (plain : P → Q) (asks : W → ℕ → List Q → Typ
     pub counts : length m.sent ≡ length m.answered + 1
     pub asked : asks work k m.sent
 
-  pub record IsWithChild (k : ℕ) (m : Mail Q) (word : ℕ) (home : maybe.Option (maybe.Option (Option P))) : Type 0 where
+  pub record IsWithChild (k : ℕ) (m : MailboxState Q) (word : ℕ) (home : maybe.Option (maybe.Option (Option P))) : Type 0 where
     pub word_is : word ≡ 1
     pub home_is : home ≡ some none
     pub taken : m.taken ≡ m.sent
     pub got : m.got ≡ m.answered
     pub counts : length m.sent ≡ length m.answered + 1
 
-  pub record IsAtParent (k : ℕ) (m : Mail Q) (word : ℕ) (home : maybe.Option (maybe.Option (Option P))) : Type 0 where
+  pub record IsAtParent (k : ℕ) (m : MailboxState Q) (word : ℕ) (home : maybe.Option (maybe.Option (Option P))) : Type 0 where
     pub packet : P
     pub word_is : word ≡ 0
     pub home_is : home ≡ some (some (Some packet))
@@ -148,7 +148,7 @@ module _ {W P Q : Type 0} (plain : P → Q) (asks : W → ℕ → List Q → Typ
     pub counts : length m.answered ≡ length m.sent
     pub reply : answers work k m.sent (plain packet)
 
-  abbrev pub BoxAt : Stage → ℕ → Mail Q → ℕ → maybe.Option (maybe.Option (Option P)) → Type 0
+  abbrev pub BoxAt : MailStage → ℕ → MailboxState Q → ℕ → maybe.Option (maybe.Option (Option P)) → Type 0
   BoxAt fresh k m w h = IsFresh k m w h
   BoxAt with_parent k m w h = IsWithParent k m w h
   BoxAt at_child k m w h = IsAtChild k m w h
@@ -156,16 +156,16 @@ module _ {W P Q : Type 0} (plain : P → Q) (asks : W → ℕ → List Q → Typ
   BoxAt at_parent k m w h = IsAtParent k m w h
 
   -- each reply answers the jobs up to its own, and each job was allowed after those before it
-  pub record Past (k : ℕ) (m : Mail Q) : Type 0 where
+  pub record Past (k : ℕ) (m : MailboxState Q) : Type 0 where
     pub replies : (i : ℕ) (r : Q) → get_elem? m.answered i ≡ some r → answers work k (take (suc i) m.sent) r
     pub jobs : (i : ℕ) → i < length m.sent → asks work k (take (suc i) m.sent)
 
   -- what the view v of the seat j says, unless it was joined into another
-  abbrev pub Seated : (ℕ → Mail Q) → (End → ℕ) → Bool → ℕ → View W Q → Type 0
-  Seated mail owner stored j v = (v ≡ spent) ⊎ ((v.work ≡ Some work) × (v.blanks ≡ blanks) × Knows (length blanks) mail owner stored j v.role)
+  abbrev pub IsSeatView : (ℕ → MailboxState Q) → (End → ℕ) → Bool → ℕ → View W Q → Type 0
+  IsSeatView mail owner stored j v = (v ≡ spent) ⊎ ((v.work ≡ Some work) × (v.blanks ≡ blanks) × KnowsRole (length blanks) mail owner stored j v.role)
 
-  pub record Kept (s : State (Option P) (View W Q)) : Type 0 where
-    pub mail : ℕ → Mail Q
+  pub record MailInvariant (s : State (Option P) (View W Q)) : Type 0 where
+    pub mail : ℕ → MailboxState Q
     pub parent : ℕ → ℕ
     pub child : ℕ → ℕ
     pub keeper : ℕ
@@ -174,7 +174,7 @@ module _ {W P Q : Type 0} (plain : P → Q) (asks : W → ℕ → List Q → Typ
     pub deep : length s.homes ≡ length blanks
     pub each_box : (k : ℕ) → k < length blanks → BoxAt (mail k).stage k (mail k) (slice_index s.words k) (get_elem? s.homes k)
     pub each_past : (k : ℕ) → k < length blanks → Past k (mail k)
-    pub each_view : (j : ℕ) (v : View W Q) → get_elem? s.views j ≡ some v → Seated mail (owner_of parent child keeper) stored j v
+    pub each_view : (j : ℕ) (v : View W Q) → get_elem? s.views j ≡ some v → IsSeatView mail (owner_of parent child keeper) stored j v
     pub each_end : (e : End) → IsEnd (length blanks) e → (v : View W Q) × (get_elem? s.views (owner_of parent child keeper e) ≡ some v) × Has v.role e
     pub stop : (slice_index s.words (length blanks) < 2) × (slice_index s.words (length blanks) ≡ 1 → stored ≡ true)
 

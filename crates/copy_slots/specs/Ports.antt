@@ -9,7 +9,7 @@ use Rattle.copy_slots.specs.declared.view.Role.TheVariants.{Idle, Keeper, Mailbo
 use Rattle.copy_slots.specs.Mail.{new_sender, new_taker, sender_opened, sender_got, sender_looked, sender_sent, taker_took, taker_looked, taker_answered, turn_between}
 
 -- the ends of one mailbox that a port has
-pub record Ends (Q : Type 0) : Type 0 where
+pub record MailboxEnds (Q : Type 0) : Type 0 where
   pub parent : Option (Sender Q)
   pub child : Option (Taker Q)
 
@@ -20,7 +20,7 @@ pub record PortState (W Q : Type 0) : Type 0 where
   pub board : Option TableId
   pub work : W
   pub blanks : List Q
-  pub ends : List (Ends Q)
+  pub ends : List (MailboxEnds Q)
   pub tells : Bool
   pub root : Bool
   pub stored : Bool
@@ -36,12 +36,12 @@ in_plain plain None = None
 in_plain plain (Some p) = Some (plain p)
 
 module _ {Q : Type 0} where
-  abbrev pub parent_at : List (Ends Q) → ℕ → Option (Sender Q)
+  abbrev pub parent_at : List (MailboxEnds Q) → ℕ → Option (Sender Q)
   parent_at [] k = None
   parent_at (e ∷ es) zero = e.parent
   parent_at (e ∷ es) (suc k) = parent_at es k
 
-  abbrev pub child_at : List (Ends Q) → ℕ → Option (Taker Q)
+  abbrev pub child_at : List (MailboxEnds Q) → ℕ → Option (Taker Q)
   child_at [] k = None
   child_at (e ∷ es) zero = e.child
   child_at (e ∷ es) (suc k) = child_at es k
@@ -54,12 +54,12 @@ module _ {Q : Type 0} where
   on_taker f None = None
   on_taker f (Some y) = Some (f y)
 
-  abbrev pub on_parent : List (Ends Q) → ℕ → (Sender Q → Sender Q) → List (Ends Q)
+  abbrev pub on_parent : List (MailboxEnds Q) → ℕ → (Sender Q → Sender Q) → List (MailboxEnds Q)
   on_parent [] k f = []
   on_parent (e ∷ es) zero f = (record { parent = on_sender f e.parent; child = e.child }) ∷ es
   on_parent (e ∷ es) (suc k) f = e ∷ on_parent es k f
 
-  abbrev pub on_child : List (Ends Q) → ℕ → (Taker Q → Taker Q) → List (Ends Q)
+  abbrev pub on_child : List (MailboxEnds Q) → ℕ → (Taker Q → Taker Q) → List (MailboxEnds Q)
   on_child [] k f = []
   on_child (e ∷ es) zero f = (record { parent = e.parent; child = on_taker f e.child }) ∷ es
   on_child (e ∷ es) (suc k) f = e ∷ on_child es k f
@@ -109,7 +109,7 @@ module _ {Q : Type 0} where
   turn_of (Some x) (Some y) = turn_between x y
   turn_of _ _ = 0
 
-  abbrev pub ends_of : Role Q → Ends Q
+  abbrev pub ends_of : Role Q → MailboxEnds Q
   ends_of (Mailbox k p c) = record { parent = p; child = c }
   ends_of r = record { parent = None; child = None }
 
@@ -130,9 +130,9 @@ module _ {Q : Type 0} where
   stored_of (Keeper from st ws) = st
   stored_of r = false
 
-  abbrev pub root_of : Role Q → Bool
-  root_of (Keeper from st ws) = true
-  root_of r = false
+  abbrev pub is_keeper : Role Q → Bool
+  is_keeper (Keeper from st ws) = true
+  is_keeper r = false
 
 -- the state of a port with both ends of each mailbox, by the roles of its seats
 abbrev pub local_state : {W Q : Type 0} → W → List Q → List (Role Q) → Role Q → PortState W Q

@@ -11,7 +11,7 @@ use Rattle.copy_slots.specs.declared.view.Taker.{Taker}
 use Rattle.copy_slots.specs.declared.view.Role.{Role}
 use Rattle.copy_slots.specs.declared.view.Role.TheVariants.{Idle, Keeper, Mailbox}
 use Rattle.copy_slots.specs.declared.view.View.{View}
-use Rattle.copy_slots.specs.Mail.{End, root, Has, IsEnd, Kept, new_sender, new_taker, spent}
+use Rattle.copy_slots.specs.Mail.{End, root, Has, IsEnd, MailInvariant, new_sender, new_taker, spent}
 use Rattle.copy_slots.specs.Ports.{stored_of}
 
 -- a packet lies in the slot, or it is in a hand
@@ -107,4 +107,4 @@ module _ {W P Q : Type 0} (plain : P → Q) (asks : W → ℕ → List Q → Typ
 
 -- whatever the mailboxes carry, a state that meets the rule has each of these parts
 abbrev pub AreRuled : {W P Q : Type 0} → (P → Q) → (W → ℕ → List Q → Type 0) → (W → ℕ → List Q → Q → Type 0) → Type 0
-AreRuled {W} {P} {Q} plain asks answers = (work : W) (blanks : List Q) (s : State (Option P) (View W Q)) → Kept plain asks answers work blanks s → Between plain asks answers work blanks s
+AreRuled {W} {P} {Q} plain asks answers = (work : W) (blanks : List Q) (s : State (Option P) (View W Q)) → MailInvariant plain asks answers work blanks s → Between plain asks answers work blanks s

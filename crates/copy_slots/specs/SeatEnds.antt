@@ -38,7 +38,7 @@ module _ {P Q : Type 0} where
 
 module _ {W P Q : Type 0} where
   -- the seat has these ends of the mailbox k
-  pub record Sits (z : TableId) (work : W) (blanks : List Q) (k : ℕ) (p : Option (Sender Q)) (c : Option (Taker Q)) (s : Seat (Option P) (View W Q)) : Type 0 where
+  pub record HasEnds (z : TableId) (work : W) (blanks : List Q) (k : ℕ) (p : Option (Sender Q)) (c : Option (Taker Q)) (s : Seat (Option P) (View W Q)) : Type 0 where
     pub table : s.table_id ≡ z
     pub me : s.me ≡ (record { work = Some work; blanks = blanks; role = Mailbox k p c }, hand p c k)
 

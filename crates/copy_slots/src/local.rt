@@ -2,7 +2,7 @@
 ghost use Rattle.std.specs.Prelude.{◌≡◌, ◌<◌, ◌^◌, length, true};
 ghost use Rattle.copy_slots.specs.Fresh.{AllSit};
 ghost use Rattle.copy_slots.specs.SeatEnds.{IsBoard, Watches};
-ghost use Rattle.copy_slots.specs.Ports.{root_of};
+ghost use Rattle.copy_slots.specs.Ports.{is_keeper};
 
 use crate::both::BothEnds;
 use crate::make::{Board, deal_all, new_table};
@@ -19,7 +19,7 @@ pub struct LocalPort<W: Work> {
     watch: MailSeat<W>,
     seats: Vec<BothEnds<W>>,
     ghost sized: { (length seats.items < 2 ^ 32) × IsBoard board.shared.table_id (length seats.items) },
-    ghost root: { Watches board.shared.table_id board.shared.key.work.value watch.me.0.blanks watch.me.0.role watch × (root_of watch.me.0.role ≡ true) },
+    ghost root: { Watches board.shared.table_id board.shared.key.work.value watch.me.0.blanks watch.me.0.role watch × (is_keeper watch.me.0.role ≡ true) },
     ghost both: { AllSit board.shared.table_id board.shared.key.work.value watch.me.0.blanks seats.items },
 }
 

@@ -17,9 +17,9 @@ pub struct MailRule<W> {
 }
 
 impl<W: Work> TableRule<Option<W::Packet>, View<W, W::Plain>, Setup<W>> for MailRule<W> {
-    ghost use Rattle.copy_slots.specs.Mail.{Kept, starting, plain_list};
+    ghost use Rattle.copy_slots.specs.Mail.{MailInvariant, starting, plain_list};
 
-    ghost holds = { λ key. Kept W.plain W.asks W.answers key.work.value (plain_list W.plain key.blanks.value.items) };
+    ghost holds = { λ key. MailInvariant W.plain W.asks W.answers key.work.value (plain_list W.plain key.blanks.value.items) };
 
     ghost first = { λ key. starting key.work.value (plain_list W.plain key.blanks.value.items) };
 }

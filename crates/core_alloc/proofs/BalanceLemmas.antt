@@ -8,7 +8,7 @@ use Rattle.std.proofs.lemmas.List.Elements.{All-set, All-cons, All-tail}
 use Rattle.std.proofs.lemmas.List.Sums.{sum_by-set, sum_by-cons}
 use Rattle.std.proofs.lemmas.List.Sorted.{sum_by-IsPermutation, All-permutation, length_permutation}
 use Rattle.core_alloc.specs.declared.ranked.Ranked.{Ranked}
-use Rattle.core_alloc.specs.Balance.{ranked_from, total, heaviest, lightest_in, lightest, Balance, placed, placed_all, nothing_placed, balance_of, IsHeaviestFirst}
+use Rattle.core_alloc.specs.Balance.{ranked_from, total_weight, heaviest, lightest_in, lightest, Balance, placed, placed_all, nothing_placed, balance_of, IsHeaviestFirst}
 
 -- ---- the threads by number
 
@@ -16,7 +16,7 @@ pub ranked_length : (at : ℕ) (weights : List ℕ) → length (ranked_from at w
 ranked_length at [] = refl
 ranked_length at (w ∷ ws) = ap suc (ranked_length (suc at) ws)
 
-pub ranked_total : (at : ℕ) (weights : List ℕ) → total (ranked_from at weights) ≡ sum weights
+pub ranked_total : (at : ℕ) (weights : List ℕ) → total_weight (ranked_from at weights) ≡ sum weights
 ranked_total at [] = refl
 ranked_total at (w ∷ ws) =
     sum_by-cons (λ (r : Ranked). r.weight.0) (record { weight = record { 0 = w }; thread = at }) (ranked_from (suc at) ws) ∙ ap (λ n. w + n) (ranked_total (suc at) ws) ∙ sym (sum_by-cons (λ x. x) w ws)
@@ -33,7 +33,7 @@ module _ (weights : List ℕ) (order : List Ranked) (h : IsHeaviestFirst weights
   pub order_length : length order ≡ length weights
   order_length = length_permutation _ _ h.all ∙ ranked_length 0 weights
 
-  pub order_total : total order ≡ sum weights
+  pub order_total : total_weight order ≡ sum weights
   order_total = sum_by-IsPermutation (λ (r : Ranked). r.weight.0) _ _ h.all ∙ ranked_total 0 weights
 
   pub order_low : All (λ (r : Ranked). r.thread < length order) order
@@ -108,7 +108,7 @@ module _ (n most : ℕ) where
 
   -- the rest of the threads is placed
   after_all : (order : List Ranked) (b : Balance) → 0 < n → length b.loads ≡ n → All (λ (r : Ranked). r.weight.0 ≤ most) order →
-      All (evenly (sum b.loads)) b.loads → All (evenly (sum b.loads + total order)) (placed_all order b).loads
+      All (evenly (sum b.loads)) b.loads → All (evenly (sum b.loads + total_weight order)) (placed_all order b).loads
   after_all [] b some count light even = λ k d h. omega (arith, even k d h)
   after_all (r ∷ rs) b some count light even =
       let one = after_one b r some count (light 0 r (omega arith)) even in

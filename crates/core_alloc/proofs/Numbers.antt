@@ -8,7 +8,7 @@ use Rattle.std.proofs.lemmas.Bool.{ltb-true}
 use Rattle.std.proofs.lemmas.List.{length-map}
 use Rattle.std.proofs.lemmas.List.Sums.{fails_before_first}
 use Rattle.std.proofs.lemmas.Str.Parse.{IsNumeralModel, IsDigitsTest, numerals_by_value, parse_gives, digits_value_short}
-use Rattle.core_alloc.specs.Places.{is_number_in, number_in, is_core, numbers_in, refusal}
+use Rattle.core_alloc.specs.Places.{is_number_in, piece_number, is_core, piece_numbers, refusal}
 use Rattle.core_alloc.specs.declared.fault.PlaceFault.TheVariants.{Core}
 
 -- ---- one number
@@ -36,7 +36,7 @@ parses bs r h number =
     let small : digits_value 10 bs < 10 ^ 3 = digits_value_short own bs 3 digits (omega arith) in
     parse_gives own 32 bs r h digits some (omega arith)
 
-pub number_is : {E : Type 0} (bs : List ℕ) (r : Result ℕ E) (o : Option ℕ) → ParsesUnsigned 32 10 bs r → is_number_in bs ≡ true → o ≡ result_ok r → o ≡ number_in bs
+pub number_is : {E : Type 0} (bs : List ℕ) (r : Result ℕ E) (o : Option ℕ) → ParsesUnsigned 32 10 bs r → is_number_in bs ≡ true → o ≡ result_ok r → o ≡ piece_number bs
 number_is bs r o h number is = rw number (is ∙ ap result_ok (parses bs r h number))
 
 -- ---- lists of numbers
@@ -87,14 +87,14 @@ same_test : (n : ℕ) → (n == n) ≡ true
 same_test n = grind arith
 
 -- where each piece has a number, and there is one for each thread, what is left to refuse is a core
-past_count : (text : List ℕ) (threads cores : ℕ) → position is_none (numbers_in text) ≡ None → length (numbers_in text) ≡ threads →
-    refusal text threads cores ≡ option_map (λ at. Core at) (position (λ core. not (nat_lt core cores)) (map value_of (numbers_in text)))
+past_count : (text : List ℕ) (threads cores : ℕ) → position is_none (piece_numbers text) ≡ None → length (piece_numbers text) ≡ threads →
+    refusal text threads cores ≡ option_map (λ at. Core at) (position (λ core. not (nat_lt core cores)) (map value_of (piece_numbers text)))
 past_count text threads cores none count =
-    let as_many : (length (numbers_in text) == threads) ≡ true = rw count (same_test threads) in
-    rw (none, as_many) (ap (option_map (λ at. Core at)) (cores_found cores (numbers_in text) none))
+    let as_many : (length (piece_numbers text) == threads) ≡ true = rw count (same_test threads) in
+    rw (none, as_many) (ap (option_map (λ at. Core at)) (cores_found cores (piece_numbers text) none))
 
 pub refuses_core : (text : List ℕ) (threads cores : ℕ) (numbers : List (Option ℕ)) (places : List ℕ) (found : Option ℕ) →
-    numbers ≡ numbers_in text → position is_none numbers ≡ None → length numbers ≡ threads → places ≡ map value_of numbers →
+    numbers ≡ piece_numbers text → position is_none numbers ≡ None → length numbers ≡ threads → places ≡ map value_of numbers →
     found ≡ position (λ core. not (nat_lt core cores)) places → refusal text threads cores ≡ option_map (λ at. Core at) found
 refuses_core text threads cores numbers places found is none count are found_is =
     past_count text threads cores (rw (← is) none) (rw (← is) count) ∙ ap (option_map (λ at. Core at)) (rw (found_is, are, is) refl)

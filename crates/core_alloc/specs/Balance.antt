@@ -13,8 +13,8 @@ abbrev pub comes_before : Ranked → Ranked → Bool
 comes_before a b = nat_lt b.weight.0 a.weight.0 || (a.weight.0 == b.weight.0 && nat_lt a.thread b.thread)
 
 -- the weights together, and the heaviest
-abbrev pub total : List Ranked → ℕ
-total order = sum_by (λ r. r.weight.0) order
+abbrev pub total_weight : List Ranked → ℕ
+total_weight order = sum_by (λ r. r.weight.0) order
 
 abbrev pub heaviest : List ℕ → ℕ
 heaviest [] = 0

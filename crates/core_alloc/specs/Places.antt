@@ -31,11 +31,11 @@ abbrev pub is_number_in : List ℕ → Bool
 is_number_in piece = nat_lt 0 (length piece) && (nat_lt (length piece) 4 && list_all is_ascii_digit piece)
 
 -- the number that they write
-abbrev pub number_in : List ℕ → Option ℕ
-number_in piece = cond (is_number_in piece) (Some (digits_value 10 piece)) None
+abbrev pub piece_number : List ℕ → Option ℕ
+piece_number piece = cond (is_number_in piece) (Some (digits_value 10 piece)) None
 
-abbrev pub numbers_in : List ℕ → List (Option ℕ)
-numbers_in text = map number_in (pieces text)
+abbrev pub piece_numbers : List ℕ → List (Option ℕ)
+piece_numbers text = map piece_number (pieces text)
 
 abbrev pub is_core : ℕ → Option ℕ → Bool
 is_core cores None = false
@@ -44,7 +44,7 @@ is_core cores (Some core) = nat_lt core cores
 -- why a text lists no place on so many cores for each of so many threads: first the shape of its pieces, then their count, then the cores
 abbrev pub refusal : List ℕ → ℕ → ℕ → Option PlaceFault
 refusal text threads cores =
-    let numbers = numbers_in text in
+    let numbers = piece_numbers text in
     option_or (option_map (λ at. Shape at) (position is_none numbers))
     (option_or (cond (length numbers == threads) None (Some (Count (length numbers))))
     (option_map (λ at. Core at) (position (λ number. not (is_core cores number)) numbers)))

@@ -1,7 +1,7 @@
 //! Placements that balance the cores.
 
 ghost use Rattle.std.specs.Prelude.{◌≡◌, ◌≤◌, ◌<◌, ◌+◌, ◌^◌, All, length, sum, IfOk};
-ghost use Rattle.core_alloc.specs.Balance.{ranked_from, total, IsHeaviestFirst, lightest, balance_of, IsBalanced, IsEven};
+ghost use Rattle.core_alloc.specs.Balance.{ranked_from, total_weight, IsHeaviestFirst, lightest, balance_of, IsBalanced, IsEven};
 
 use crate::placement::Placement;
 use crate::ranked::Ranked;
@@ -56,7 +56,7 @@ fn places_of(alloc: Global, order: &[Ranked], cores: u32) -> Result<Vec<u32>, Ou
     requires some { 1 ≤ cores }
     requires few { cores ≤ 64 }
     requires threads { All (λ r. r.thread < length order.now) order.now }
-    requires total { total order.now ≤ 2 ^ 62 }
+    requires total { total_weight order.now ≤ 2 ^ 62 }
     ensures places { IfOk result (λ p. p.items ≡ (balance_of order.now cores).places) }
     ensures below { IfOk result (λ p. All (λ core. core < cores) p.items) }
     ensures count { IfOk result (λ p. length p.items ≡ length order.now) }

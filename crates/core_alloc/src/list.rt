@@ -3,7 +3,7 @@
 ghost use Rattle.std.specs.Prelude.{◌≡◌, ◌≤◌, ◌⊎◌, Option, None, Some, map, position, is_none, not, nat_lt, unwrap_or, IfOk, IfErr};
 ghost use Rattle.std.specs.List.{list_all};
 ghost use Rattle.std.specs.Char.{is_ascii_digit};
-ghost use Rattle.core_alloc.specs.Places.{is_number_in, number_in, numbers_in, refusal};
+ghost use Rattle.core_alloc.specs.Places.{is_number_in, piece_number, piece_numbers, refusal};
 ghost use Rattle.core_alloc.specs.declared.fault.PlaceFault.TheVariants as fault;
 
 use crate::fault::PlaceFault;
@@ -24,7 +24,7 @@ fn is_number(piece: &str) -> bool
 
 /// The number that one to three decimal digits write.
 fn number_of(piece: &str) -> Option<u32>
-    ensures { result ≡ number_in piece.now }
+    ensures { result ≡ piece_number piece.now }
 {
     if is_number(piece) {
         piece.parse().ok()
@@ -35,7 +35,7 @@ fn number_of(piece: &str) -> Option<u32>
 
 /// The numbers between the commas.
 fn numbers_of(alloc: Global, text: &str) -> Result<Vec<Option<u32>>, AllocError>
-    ensures { IfOk result (λ numbers. numbers.items ≡ numbers_in text.now) }
+    ensures { IfOk result (λ numbers. numbers.items ≡ piece_numbers text.now) }
 {
     text.split(',').map(|piece| number_of(piece)).collect(alloc)
 }
@@ -74,7 +74,7 @@ pub fn given(alloc: Global, text: &str, threads: u32, cores: u32) -> Result<Plac
     requires some { 1 ≤ cores }
     requires few { cores ≤ 64 }
     ensures cores { IfOk result (λ p. p.cores ≡ cores) }
-    ensures places { IfOk result (λ p. map Some p.places ≡ numbers_in text.now) }
+    ensures places { IfOk result (λ p. map Some p.places ≡ piece_numbers text.now) }
     ensures ok { IfOk result (λ _. refusal text.now threads cores ≡ None) }
     ensures err { IfErr result (λ e. (e ≡ fault.OutOfMemory) ⊎ (refusal text.now threads cores ≡ Some e)) }
 {

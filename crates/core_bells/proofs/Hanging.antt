@@ -10,7 +10,7 @@ use Rattle.crossbeam_queue.specs.Fifo.{Held}
 use Rattle.core_alloc.specs.Places.{Places}
 use Rattle.core_bells.specs.declared.hints.HintLog.{HintLog}
 use Rattle.core_bells.specs.Hints.{Accounts, Knows, after_pop, after_push, new_log}
-use Rattle.core_bells.specs.Ropes.{RopeState, FitsCore, IsSameRope, WasEmpty, WasFull, after_ring, after_rope_pop, capped, logs_of, pushed_by, rope_state}
+use Rattle.core_bells.specs.Ropes.{RopeState, RopeFitsCore, IsSameRope, WasEmpty, WasFull, after_ring, after_rope_pop, capped_count, logs_of, pushed_hints, rope_state}
 use Rattle.core_bells.proofs.Lists.{length_snoc, same_there, set_cases}
 
 pub get_map : {A B : Type 0} (f : A → B) (l : List A) (k : ℕ) (a : A) → slice_get l k ≡ Some a → slice_get (map f l) k ≡ Some (f a)
@@ -29,7 +29,7 @@ pub log_is : (passes : List (Pass ℕ HintLog)) (k : ℕ) (p : Pass ℕ HintLog)
 log_is passes k p at = or_map view passes k p (new_log false) at
 
 module _ {Q A : Type 0} where
-  pub within : (placement : Places) (queues : List (Slotted (Option ℕ) (Doing ℕ HintLog) Q A)) (core : ℕ) (passes : List (Pass ℕ HintLog)) (k : ℕ) → FitsCore placement queues core passes → k < placement.cores → (k < length queues) × (k < length passes)
+  pub within : (placement : Places) (queues : List (Slotted (Option ℕ) (Doing ℕ HintLog) Q A)) (core : ℕ) (passes : List (Pass ℕ HintLog)) (k : ℕ) → RopeFitsCore placement queues core passes → k < placement.cores → (k < length queues) × (k < length passes)
   within placement queues core passes k h lt = let a = h.cores in let b = h.fit.long in (omega (arith, a, lt), omega (arith, a, b, lt))
 
   pub state_set : (placement : Places) (queues : List (Slotted (Option ℕ) (Doing ℕ HintLog) Q A)) (core : ℕ) (passes : List (Pass ℕ HintLog)) (k : ℕ) (old new : Pass ℕ HintLog) (f : HintLog → HintLog)
@@ -47,7 +47,7 @@ module _ {Q A : Type 0} where
   empty_at placement queues core passes p at may h = subst (λ (v : HintLog). Held 0 (Accounts v)) (sym (log_is passes core p at)) (h.0, h.1, h.2 may)
 
   pub fits_set : (placement : Places) (queues : List (Slotted (Option ℕ) (Doing ℕ HintLog) Q A)) (core : ℕ) (passes : List (Pass ℕ HintLog)) (k : ℕ) (q : Slotted (Option ℕ) (Doing ℕ HintLog) Q A) (old new : Pass ℕ HintLog)
-      → slice_get queues k ≡ Some q → slice_get passes k ≡ Some old → IsPassOf q new → (view new).may_pop ≡ (view old).may_pop → FitsCore placement queues core passes → FitsCore placement queues core (set passes k new)
+      → slice_get queues k ≡ Some q → slice_get passes k ≡ Some old → IsPassOf q new → (view new).may_pop ≡ (view old).may_pop → RopeFitsCore placement queues core passes → RopeFitsCore placement queues core (set passes k new)
   fits_set placement queues core passes k q old new there was is same h = record {
     cores = h.cores;
     core_below = h.core_below;
@@ -63,21 +63,21 @@ module _ {Q A : Type 0} where
         (λ x. h.own s x.1) (set_cases passes k new core s at);
   }
 
-pushed_set : (logs : List HintLog) (k : ℕ) (v w : HintLog) → slice_get logs k ≡ Some v → pushed_by (set logs k w) + length v.pushed ≡ pushed_by logs + length w.pushed
+pushed_set : (logs : List HintLog) (k : ℕ) (v w : HintLog) → slice_get logs k ≡ Some v → pushed_hints (set logs k w) + length v.pushed ≡ pushed_hints logs + length w.pushed
 pushed_set [] k v w at = absurd (cc)
 pushed_set (u ∷ logs) zero v w at = let same : u ≡ v = cc in let e = ap (λ (y : HintLog). length y.pushed) same in omega (arith, e)
 pushed_set (u ∷ logs) (suc k) v w at = let t = pushed_set logs k v w at in omega (arith, t)
 
-module _ (passes : List (Pass ℕ HintLog)) (k : ℕ) (old new : Pass ℕ HintLog) (at : slice_get passes k ≡ Some old) (pushed : ℕ) (is : pushed ≡ capped (pushed_by (logs_of passes))) where
-  moved : pushed_by (logs_of (set passes k new)) + length (view old).pushed ≡ pushed_by (logs_of passes) + length (view new).pushed
-  moved = ap (λ l. pushed_by l + length (view old).pushed) (map-set view passes k new) ∙ pushed_set (logs_of passes) k (view old) (view new) (get_map view passes k old at)
+module _ (passes : List (Pass ℕ HintLog)) (k : ℕ) (old new : Pass ℕ HintLog) (at : slice_get passes k ≡ Some old) (pushed : ℕ) (is : pushed ≡ capped_count (pushed_hints (logs_of passes))) where
+  moved : pushed_hints (logs_of (set passes k new)) + length (view old).pushed ≡ pushed_hints (logs_of passes) + length (view new).pushed
+  moved = ap (λ l. pushed_hints l + length (view old).pushed) (map-set view passes k new) ∙ pushed_set (logs_of passes) k (view old) (view new) (get_map view passes k old at)
 
-  pub count_push : (fits : Bool) (hint now : ℕ) → view new ≡ after_push fits hint (view old) → now ≡ cond fits (min (pushed + 1) (2 ^ 64 - 1)) pushed → now ≡ capped (pushed_by (logs_of (set passes k new)))
+  pub count_push : (fits : Bool) (hint now : ℕ) → view new ≡ after_push fits hint (view old) → now ≡ cond fits (min (pushed + 1) (2 ^ 64 - 1)) pushed → now ≡ capped_count (pushed_hints (logs_of (set passes k new)))
   count_push true hint now log e =
       let m = moved in let n = ap (λ (y : HintLog). length y.pushed) log in let s = length_snoc (view old).pushed hint in omega (arith, m, n, s, is, e)
   count_push false hint now log e = let m = moved in let n = ap (λ (y : HintLog). length y.pushed) log in omega (arith, m, n, is, e)
 
-  pub count_pop : (hint : Option ℕ) → view new ≡ after_pop hint (view old) → pushed ≡ capped (pushed_by (logs_of (set passes k new)))
+  pub count_pop : (hint : Option ℕ) → view new ≡ after_pop hint (view old) → pushed ≡ capped_count (pushed_hints (logs_of (set passes k new)))
   count_pop None log = let m = moved in let n = ap (λ (y : HintLog). length y.pushed) log in omega (arith, m, n, is)
   count_pop (Some hint) log = let m = moved in let n = ap (λ (y : HintLog). length y.pushed) log in omega (arith, m, n, is)
 
@@ -91,7 +91,7 @@ may_pop (Some hint) v w e = ap (λ (y : HintLog). y.may_pop) e
 
 -- ---- what a rope keeps
 
-pushed_more : (logs : List HintLog) (k : ℕ) (f : HintLog → HintLog) → ((v : HintLog) → length v.pushed ≤ length (f v).pushed) → pushed_by logs ≤ pushed_by (slice_set logs k (f (get_or logs k (new_log false))))
+pushed_more : (logs : List HintLog) (k : ℕ) (f : HintLog → HintLog) → ((v : HintLog) → length v.pushed ≤ length (f v).pushed) → pushed_hints logs ≤ pushed_hints (slice_set logs k (f (get_or logs k (new_log false))))
 pushed_more [] k f more = omega arith
 pushed_more (u ∷ logs) zero f more = let m = more u in omega (arith, m)
 pushed_more (u ∷ logs) (suc k) f more = let t = pushed_more logs k f more in omega (arith, t)

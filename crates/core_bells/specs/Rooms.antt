@@ -10,13 +10,13 @@ core_of places (Some t) = get_or places t 0
 
 module _ (shape : PlainShape) (places : List ℕ) where
   -- Mailbox k has its parent's end on the core of the parent of thread k + 1, and its child's end on that of thread k + 1.
-  abbrev pub ends_at : ℕ → ℕ × ℕ
-  ends_at k = (core_of places (thread_of (of_shape shape) (suc k)).parent, get_or places (suc k) 0)
+  abbrev pub mailbox_cores : ℕ → ℕ × ℕ
+  mailbox_cores k = (core_of places (thread_of (of_shape shape) (suc k)).parent, get_or places (suc k) 0)
 
   -- of the first n mailboxes
   abbrev pub ends_of_first : ℕ → List (ℕ × ℕ)
   ends_of_first zero = []
-  ends_of_first (suc n) = ends_of_first n ++ ends_at n ∷ []
+  ends_of_first (suc n) = ends_of_first n ++ mailbox_cores n ∷ []
 
   -- of all
   abbrev pub mailbox_ends : List (ℕ × ℕ)

@@ -41,8 +41,8 @@ new_ropes code placement (suc n) = new_ropes code placement n ++ new_rope code p
 -- ---- what the calls of a rope do
 
 -- the hints that a rope pushed
-abbrev pub pushed_by : List HintLog → ℕ
-pushed_by logs = total (λ v. length v.pushed) logs
+abbrev pub pushed_hints : List HintLog → ℕ
+pushed_hints logs = total (λ v. length v.pushed) logs
 
 abbrev pub log_at : RopeState → ℕ → HintLog
 log_at r core = get_or r.logs core (new_log false)
@@ -63,7 +63,7 @@ pub record IsSameRope (r q : RopeState) : Type 0 where
   pub placement : q.placement ≡ r.placement
   pub core : q.core ≡ r.core
   pub rooms : q.rooms ≡ r.rooms
-  pub pushed : pushed_by r.logs ≤ pushed_by q.logs
+  pub pushed : pushed_hints r.logs ≤ pushed_hints q.logs
 
 -- at one moment the core's queue held as many hints as it has room for
 abbrev pub WasFull : ℕ → RopeState → Type 0
@@ -85,8 +85,8 @@ pub record HasHinted (thread hint : ℕ) (r q : RopeState) : Type 0 where
 abbrev pub WasEmpty : RopeState → Type 0
 WasEmpty r = Held 0 (Accounts (own_log r))
 
-abbrev pub capped : ℕ → ℕ
-capped n = min n (2 ^ 64 - 1)
+abbrev pub capped_count : ℕ → ℕ
+capped_count n = min n (2 ^ 64 - 1)
 
 -- the placement of so many cores, with these places
 abbrev pub placed_on : ℕ → List ℕ → Places
@@ -113,7 +113,7 @@ module _ {Q A : Type 0} where
     pub first : (k : ℕ) (p : Pass ℕ HintLog) → core ≤ k → slice_get passes k ≡ Some p → view p ≡ new_log true
 
   -- the passes of a core's rope
-  pub record FitsCore (placement : Places) (queues : List (Slotted (Option ℕ) (Doing ℕ HintLog) Q A)) (core : ℕ) (passes : List (Pass ℕ HintLog)) : Type 0 where
+  pub record RopeFitsCore (placement : Places) (queues : List (Slotted (Option ℕ) (Doing ℕ HintLog) Q A)) (core : ℕ) (passes : List (Pass ℕ HintLog)) : Type 0 where
     pub cores : length queues ≡ placement.cores
     pub core_below : core < placement.cores
     pub placed : All (λ c. c < placement.cores) placement.places
@@ -122,14 +122,14 @@ module _ {Q A : Type 0} where
 
   -- the same, and so many hints were pushed
   abbrev pub FitsRope : Places → List (Slotted (Option ℕ) (Doing ℕ HintLog) Q A) → ℕ → List (Pass ℕ HintLog) → ℕ → Type 0
-  FitsRope placement queues core passes pushed = FitsCore placement queues core passes × (pushed ≡ capped (pushed_by (logs_of passes)))
+  FitsRope placement queues core passes pushed = RopeFitsCore placement queues core passes × (pushed ≡ capped_count (pushed_hints (logs_of passes)))
 
   abbrev pub rope_state : Places → List (Slotted (Option ℕ) (Doing ℕ HintLog) Q A) → ℕ → List (Pass ℕ HintLog) → RopeState
   rope_state placement queues core passes = record { placement = placement; core = core; rooms = map ruled_capacity queues; logs = logs_of passes }
 
   -- every rope fits the queues, and pushed no hint
-  abbrev pub AllFit : Places → List (Slotted (Option ℕ) (Doing ℕ HintLog) Q A) → List LooseRope → Type 0
-  AllFit placement queues ropes = (i : ℕ) (r : LooseRope) → slice_get ropes i ≡ Some r → FitsCore placement queues r.core r.passes.items × (pushed_by (logs_of r.passes.items) ≡ 0)
+  abbrev pub RopesFit : Places → List (Slotted (Option ℕ) (Doing ℕ HintLog) Q A) → List LooseRope → Type 0
+  RopesFit placement queues ropes = (i : ℕ) (r : LooseRope) → slice_get ropes i ≡ Some r → RopeFitsCore placement queues r.core r.passes.items × (pushed_hints (logs_of r.passes.items) ≡ 0)
 
   abbrev pub states_of : Places → List (Slotted (Option ℕ) (Doing ℕ HintLog) Q A) → List LooseRope → List RopeState
   states_of placement queues ropes = map (λ r. rope_state placement queues r.core r.passes.items) ropes
@@ -142,7 +142,7 @@ module _ {Q A : Type 0} where
 
   -- on whatever placement these are the queues, the ropes of the first so many cores fit them
   abbrev pub FitFirst : List (Slotted (Option ℕ) (Doing ℕ HintLog) Q A) → ℕ → List LooseRope → Type 0
-  FitFirst queues cores ropes = (code : CodeParts) (placement : Places) → AreQueues code placement queues → cores ≤ placement.cores → AllFit placement queues ropes
+  FitFirst queues cores ropes = (code : CodeParts) (placement : Places) → AreQueues code placement queues → cores ≤ placement.cores → RopesFit placement queues ropes
 
   -- and they are new
   abbrev pub AreNewFirst : List (Slotted (Option ℕ) (Doing ℕ HintLog) Q A) → ℕ → List LooseRope → Type 0

@@ -34,9 +34,9 @@ pub struct Bells {
 }
 
 impl GivesRopes for Bells {
-    ghost use Rattle.core_bells.specs.Ropes.{AllFit, placed_on, states_of};
+    ghost use Rattle.core_bells.specs.Ropes.{RopesFit, placed_on, states_of};
 
-    ghost is_whole = { λ b. AllFit (placed_on b.belfry.cores b.belfry.places.items) b.belfry.queues.items b.loose.items };
+    ghost is_whole = { λ b. RopesFit (placed_on b.belfry.cores b.belfry.places.items) b.belfry.queues.items b.loose.items };
 
     ghost ropes = { λ b. states_of (placed_on b.belfry.cores b.belfry.places.items) b.belfry.queues.items b.loose.items };
 }

@@ -3,7 +3,7 @@ ghost use Rattle.std.specs.Prelude.{◌≡◌, ◌+◌, ◌<◌, ◌^◌, All, I
 ghost use Rattle.forec_kernel.specs.Shapes.{plain_shape, plain_thread};
 ghost use Rattle.thread_code.specs.Plain.{plain_code};
 ghost use Rattle.thread_code.specs.Valid.{FineShape};
-ghost use Rattle.core_bells.specs.Rooms.{ends_at, ends_on, mailbox_ends, room_on};
+ghost use Rattle.core_bells.specs.Rooms.{mailbox_cores, ends_on, mailbox_ends, room_on};
 
 use core_alloc::Placement;
 use forec_base::OutOfMemory;
@@ -28,7 +28,7 @@ fn ends_of(shape: &Shape, places: &[u32], mailbox: usize) -> (u32, u32)
     requires fine { FineShape (plain_shape shape.now) }
     requires placed { length places.now ≡ length (plain_shape shape.now).threads }
     requires mailbox { mailbox + 1 < length places.now }
-    ensures { result ≡ ends_at (plain_shape shape.now) places.now mailbox }
+    ensures { result ≡ mailbox_cores (plain_shape shape.now) places.now mailbox }
 {
     let child = mailbox + 1;
     let Some(parent) = shape.threads[child].parent else {

@@ -1,6 +1,6 @@
 //! The rope of one core.
 ghost use Rattle.std.specs.Prelude.{◌≡◌, ◌<◌, ◌+◌, ◌-◌, ◌^◌, All, IfSome, None, cond, length, min, slice_get, true, false};
-ghost use Rattle.core_bells.specs.Ropes.{HasHinted, IsSameRope, WasEmpty, WasFull, after_ring, after_rope_pop, capped, own_log, pushed_by};
+ghost use Rattle.core_bells.specs.Ropes.{HasHinted, IsSameRope, WasEmpty, WasFull, after_ring, after_rope_pop, capped_count, own_log, pushed_hints};
 
 use crate::bed::{Bed, Rings};
 use crate::belfry::Belfry;
@@ -61,7 +61,7 @@ impl<'b> Rope<'b> {
 
     /// How many hints it pushed, to whatever queues, or 2^64 - 1 where there are more.
     pub fn pushed(&self) -> u64
-        ensures { result ≡ capped (pushed_by self.now.logs) }
+        ensures { result ≡ capped_count (pushed_hints self.now.logs) }
     {
         self.pushed
     }

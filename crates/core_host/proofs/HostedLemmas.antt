@@ -24,8 +24,8 @@ use Rattle.core_seats.specs.Loads.{is_on, AreOwn}
 use Rattle.core_seats.specs.Posts.{Mail}
 use Rattle.core_seats.specs.Changes.{Grown}
 use Rattle.core_seats.specs.Done.{HasDone}
-use Rattle.core_seats.specs.Keeping.{State, code_in, IsSeated, Sits, Idle, HasPacket}
-use Rattle.core_seats.specs.Waiting.{IsBetween, rests, waits}
+use Rattle.core_seats.specs.Keeping.{SchedulerState, code_in, IsSeated, Sits, Idle, HasPacket}
+use Rattle.core_seats.specs.Waiting.{RestsOrWaits, rests, waits}
 use Rattle.core_seats.specs.Serving.{KeepsServing}
 use Rattle.core_seats.specs.Hung.{IsHung, KeepsRope}
 use Rattle.core_seats.specs.Rounds.{CanServe, IsSameRound}
@@ -103,10 +103,10 @@ standing_set (y ∷ l) (suc i) x same = ap (λ t. standing y ∷ t) (standing_se
 
 -- ---- what a host keeps
 
-pub hosted_seated : (s : State) (cores : List ℕ) (root : Packet) (live : Bool) (rope : Option RopeState) → IsHosted (hosted s cores root live rope) → IsSeated s
+pub hosted_seated : (s : SchedulerState) (cores : List ℕ) (root : Packet) (live : Bool) (rope : Option RopeState) → IsHosted (hosted s cores root live rope) → IsSeated s
 hosted_seated s cores root live rope inv = record { valid = inv.valid; work = inv.work; mailboxes = inv.mailboxes; seats = inv.seats; hands = inv.hands; places = inv.places }
 
-module _ (s0 s1 : State) (cores : List ℕ) (root : Packet) (live : Bool) (rope0 rope1 : Option RopeState) (keeps : KeepsServing s0 s1) where
+module _ (s0 s1 : SchedulerState) (cores : List ℕ) (root : Packet) (live : Bool) (rope0 rope1 : Option RopeState) (keeps : KeepsServing s0 s1) where
   abbrev h0 : Hosted
   h0 = hosted s0 cores root live rope0
 
@@ -194,13 +194,13 @@ module _ (s0 s1 : State) (cores : List ℕ) (root : Packet) (live : Bool) (rope0
 
 -- ---- its mailboxes
 
-module _ (s : State) (cores : List ℕ) (root : Packet) (live : Bool) (rope : Option RopeState) (inv : IsHosted (hosted s cores root live rope)) (own : List ℕ) (are : AreOwn s.places cores own) where
+module _ (s : SchedulerState) (cores : List ℕ) (root : Packet) (live : Bool) (rope : Option RopeState) (inv : IsHosted (hosted s cores root live rope)) (own : List ℕ) (are : AreOwn s.places cores own) where
   pub its_own : (i k : ℕ) → slice_get own i ≡ Some k → (k < length s.mail.ends) × (is_here (hosted s cores root live rope) (suc k) ≡ true)
   its_own i k at =
       let o = are.here i k at in
       let lt = o.0 in (omega (arith, lt, inv.places, inv.mailboxes), o.1)
 
-  pub each_between : (i k : ℕ) → slice_get own i ≡ Some k → (k < length s.mail.ends) × IsBetween s k
+  pub each_between : (i k : ℕ) → slice_get own i ≡ Some k → (k < length s.mail.ends) × RestsOrWaits s k
   each_between i k at = let o = its_own i k at in (o.0, inv.between k o.0 (inv.here k o.0 o.1))
 
   pub where_own : (k : ℕ) → k < length s.mail.ends → is_here (hosted s cores root live rope) (suc k) ≡ true → (i : ℕ) × (slice_get own i ≡ Some k)
@@ -208,7 +208,7 @@ module _ (s : State) (cores : List ℕ) (root : Packet) (live : Bool) (rope : Op
 
 -- ---- a thread that rests
 
-pub idle_between : (s : State) (k : ℕ) → IsBetween s k → ChildIs s.mail k false → Idle s k
+pub idle_between : (s : SchedulerState) (k : ℕ) → RestsOrWaits s k → ChildIs s.mail k false → Idle s k
 idle_between s k (rests r) rest = r.idle
 idle_between s k (waits w) rest =
     let n = w.waiting.work.number in

@@ -16,15 +16,15 @@ use Rattle.core_machine.specs.Threads.{IsResting, StandsFor}
 use Rattle.copy_slots.specs.declared.view.PacketAt.TheVariants.{Fresh}
 use Rattle.copy_slots.specs.declared.view.Sender.{Sender}
 use Rattle.copy_slots.specs.declared.view.Taker.{Taker}
-use Rattle.copy_slots.specs.Ports.{Ends, parent_at, child_at, sent_by, got_by, taken_by, answered_by, IsParent, IsChild, sent, got}
+use Rattle.copy_slots.specs.Ports.{MailboxEnds, parent_at, child_at, sent_by, got_by, taken_by, answered_by, IsParent, IsChild, sent, got}
 use Rattle.core_alloc.specs.Places.{Places}
 use Rattle.core_seats.specs.declared.seat.Seat.{Seat}
 use Rattle.core_seats.specs.Posts.{Mail, AreReplies}
 use Rattle.tick_jobs.specs.Branches.{IsBranchOf}
 use Rattle.core_seats.specs.Loads.{is_on, IsNewParent, IsNewChild, ArePlaced, CanLoad, AreAll, IsNewSeat, contains_core}
 use Rattle.core_seats.specs.Done.{HasDone}
-use Rattle.core_seats.specs.Keeping.{State, Sits, Idle, none, blank, HasPacket, Quiet}
-use Rattle.core_seats.specs.Waiting.{HasChild, IsBetween, IsVacant, rests}
+use Rattle.core_seats.specs.Keeping.{SchedulerState, Sits, Idle, none, blank, HasPacket, Quiet}
+use Rattle.core_seats.specs.Waiting.{HasChild, RestsOrWaits, IsVacant, rests}
 use Rattle.core_host.specs.Hosted.{Hosted, hosted, is_here, IsWhole}
 use Rattle.core_host.specs.Rests.{IsHosted}
 use Rattle.tick_jobs.specs.Ready.{IsReady}
@@ -32,7 +32,7 @@ use Rattle.tick_jobs.specs.Ticks.{RanNone, HasRun}
 use Rattle.core_host.specs.Runs.{HasJobs, ticking, IsNewHost}
 use Rattle.tick_jobs.proofs.Branching.{branch_above, has_parent}
 
-parent_past : {Q : Type 0} (es : List (Ends Q)) (k : ℕ) → length es ≤ k → parent_at es k ≡ None
+parent_past : {Q : Type 0} (es : List (MailboxEnds Q)) (k : ℕ) → length es ≤ k → parent_at es k ≡ None
 parent_past [] k le = refl
 parent_past (e ∷ es) zero le = absurd (omega arith)
 parent_past (e ∷ es) (suc k) le = parent_past es k (omega (arith, le))
@@ -65,7 +65,7 @@ module _ (code : CodeParts) (valid : IsValidCode (plain_code code)) (placement :
     (each : (t core : ℕ) (s : Seat) → slice_get placement.places t ≡ Some core → slice_get seats t ≡ Some s → IsNewSeat (plain_code code) t (contains_core core cores) s)
     (hands : List (Option Packet)) (hand_count : length hands ≡ length (plain_code code).threads - 1) (empty : (k : ℕ) (h : Option Packet) → slice_get hands k ≡ Some h → h ≡ None)
     (root : Packet) (room : HasRoom (of_shape (plain_code code).shape) 0 (plain_packet root)) (is_blank : root.kind ≡ kind.Blank) where
-  abbrev st : State
+  abbrev st : SchedulerState
   st = record { code = code; places = placement.places; mail = mail; seats = seats; hands = hands }
 
   abbrev pub new_host : Hosted
@@ -161,12 +161,12 @@ module _ (code : CodeParts) (valid : IsValidCode (plain_code code)) (placement :
       let p = parent_new (on up.0) (parent_at mail.ends k) (can.parents placed k up.0 lt up.1) (all up.0 up_lt) in
       record { idle = new_idle k lt here; all = c.1 ∙ sym p.1; packet = new_packet up.0 k lt up.1 (all up.0 up_lt) }
 
-  new_between : (k : ℕ) → k < length mail.ends → HasChild mail k → IsBetween st k
+  new_between : (k : ℕ) → k < length mail.ends → HasChild mail k → RestsOrWaits st k
   new_between k lt there =
       let here = child_there (on (suc k)) (child_at mail.ends k) there.0 (can.children placed k lt) there.1 in
       rests (record { idle = new_idle k lt here; has = λ j less mine. new_packet (suc k) j less mine here })
 
-  new_descends : (k : ℕ) → k < length mail.ends → (b : Bool) → on (suc k) ≡ b → IsVacant st (suc k) ⊎ IsBetween st k
+  new_descends : (k : ℕ) → k < length mail.ends → (b : Bool) → on (suc k) ≡ b → IsVacant st (suc k) ⊎ RestsOrWaits st k
   new_descends k lt true here = inr (new_between k lt (false, (child_new (on (suc k)) (child_at mail.ends k) (can.children placed k lt) here).0))
   new_descends k lt false else = let s = seat_at (suc k) (in_threads k lt) in inl (record { seat = s.0; at = s.1; none = s.2.else else })
 

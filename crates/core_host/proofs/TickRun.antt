@@ -15,7 +15,7 @@ use Rattle.combine_tree.specs.declared.packet.PacketKind.TheVariants as kind
 use Rattle.combine_tree.specs.Plain.{plain_packet}
 use Rattle.core_machine.specs.declared.thread.Thread.{Thread}
 use Rattle.core_machine.specs.Threads.{CanBegin}
-use Rattle.core_machine.specs.Replies.{Replies_by}
+use Rattle.core_machine.specs.Replies.{RepliesByKind}
 use Rattle.std.specs.Prelude.{Option}
 use Rattle.core_bells.specs.Ropes.{RopeState}
 use Rattle.core_seats.specs.Hung.{KeepsRope}
@@ -23,12 +23,12 @@ use Rattle.core_seats.specs.Posts.{HasPosted, HasPostedTaken}
 use Rattle.tick_jobs.proofs.Readiness.{between_of, begins_by, replied_of}
 use Rattle.tick_jobs.specs.Branches.{IsBranchOf}
 use Rattle.core_seats.specs.Done.{HasDone}
-use Rattle.tick_jobs.specs.Jobs.{IsBetween, kind_of, job_of}
+use Rattle.tick_jobs.specs.Jobs.{IsBetweenTicks, next_job_kind, job_of}
 use Rattle.tick_jobs.specs.Outcomes.{IsReplied, outcome_in, HasOutputs, LacksOutputs}
 use Rattle.tick_jobs.specs.Ticks.{RunsTick}
 use Rattle.core_seats.specs.Loads.{is_on}
-use Rattle.core_seats.specs.Keeping.{State, code_in, IsSeated, Sits, Idle, HasPacket, QuietAbove}
-use Rattle.core_seats.specs.Waiting.{HasChild, IsBetween as IsServed, IsVacant, CanDescend, rests}
+use Rattle.core_seats.specs.Keeping.{SchedulerState, code_in, IsSeated, Sits, Idle, HasPacket, QuietAbove}
+use Rattle.core_seats.specs.Waiting.{HasChild, RestsOrWaits as IsServed, IsVacant, CanDescend, rests}
 use Rattle.core_seats.specs.Ending.{HasReplied}
 use Rattle.core_host.specs.Hosted.{Hosted, hosted, state_in, code_of, is_here, IsWhole}
 use Rattle.core_seats.specs.Resting.{RootRests}
@@ -48,23 +48,23 @@ module _ (h : Hosted) (inv : IsHosted h) (here : is_here h 0 ≡ true) (live : h
   the_root : RootRests (state_in h)
   the_root = inv.root here
 
-  pub is_between : IsBetween h.root.kind
+  pub is_between : IsBetweenTicks h.root.kind
   is_between = let r = the_root in between_of r.thread h.root.kind (inv.ready live r.thread r.sits)
 
-  pub can_begin : (t : Thread) → Sits (state_in h) 0 t → CanBegin t (kind_of h.root.kind)
+  pub can_begin : (t : Thread) → Sits (state_in h) 0 t → CanBegin t (next_job_kind h.root.kind)
   can_begin t sits = begins_by t h.root.kind (inv.ready live t sits)
 
 -- ---- after
 
 -- what is kept of the other threads, and of the packets of thread 0's branches
-pub record HasRested (s : State) (cores : List ℕ) : Type 0 where
+pub record HasRested (s : SchedulerState) (cores : List ℕ) : Type 0 where
   pub here : (k : ℕ) → k < length s.mail.ends → is_on s.places cores (suc k) ≡ true → HasChild s.mail k
   pub between : (k : ℕ) → k < length s.mail.ends → HasChild s.mail k → IsServed s k
   pub all : CanDescend s 0
   pub keeper : is_on s.places cores 0 ≡ true → s.mail.root ≡ true
   pub packets : (k : ℕ) → k < length s.mail.ends → IsBranchOf (code_in s).shape 0 k → HasPacket s k
 
-pub quiet_rested : (s0 s1 : State) (cores : List ℕ) (p : Packet) (live : Bool) (rope : Option RopeState) → IsHosted (hosted s0 cores p live rope) → s1.places ≡ s0.places → s1.mail.root ≡ s0.mail.root → QuietAbove s1 0 → HasRested s1 cores
+pub quiet_rested : (s0 s1 : SchedulerState) (cores : List ℕ) (p : Packet) (live : Bool) (rope : Option RopeState) → IsHosted (hosted s0 cores p live rope) → s1.places ≡ s0.places → s1.mail.root ≡ s0.mail.root → QuietAbove s1 0 → HasRested s1 cores
 quiet_rested s0 s1 cores p live rope inv places root quiet = record {
   here = λ k lt on. (false, (quiet k (omega arith) lt).idle.child);
   between = λ k lt there. at_rest k lt;
@@ -76,7 +76,7 @@ quiet_rested s0 s1 cores p live rope inv places root quiet = record {
     at_rest : (k : ℕ) → k < length s1.mail.ends → IsServed s1 k
     at_rest k lt = rests (record { idle = (quiet k (omega arith) lt).idle; has = λ j less mine. (quiet j (omega arith) less).packet })
 
-pub beside_rested : (s0 s1 : State) (cores : List ℕ) (p : Packet) (live : Bool) (rope : Option RopeState) → IsHosted (hosted s0 cores p live rope) → IsSeated s1 → s1.code ≡ s0.code → s1.places ≡ s0.places → s1.mail.root ≡ s0.mail.root → ((k : ℕ) → HasChild s0.mail k → HasChild s1.mail k) →
+pub beside_rested : (s0 s1 : SchedulerState) (cores : List ℕ) (p : Packet) (live : Bool) (rope : Option RopeState) → IsHosted (hosted s0 cores p live rope) → IsSeated s1 → s1.code ≡ s0.code → s1.places ≡ s0.places → s1.mail.root ≡ s0.mail.root → ((k : ℕ) → HasChild s0.mail k → HasChild s1.mail k) →
     ((k : ℕ) → HasChild s1.mail k → HasChild s0.mail k) → ((k : ℕ) → IsServed s0 k → IsServed s1 k) → ((k : ℕ) → IsVacant s0 (suc k) → IsVacant s1 (suc k)) → ((k : ℕ) → k < length s1.mail.ends → IsBranchOf (code_in s0).shape 0 k → HasPacket s1 k) → HasRested s1 cores
 beside_rested s0 s1 cores p live rope inv seated code places root here was_here between vacant packets = record {
   here = λ k lt on. here k (inv.here k (within k lt) (ap (λ l. is_on l cores (suc k)) (sym places) ∙ on));
@@ -92,9 +92,9 @@ beside_rested s0 s1 cores p live rope inv seated code places root here was_here 
         let zero = inv.mailboxes in
         let same = ap (λ x. length (plain_code x).threads) code in omega (arith, lt, one, zero, same)
 
-module _ (s0 s1 : State) (cores : List ℕ) (p0 p1 pj : Packet) (live0 live1 : Bool) (rope0 rope1 : Option RopeState) (inv : IsHosted (hosted s0 cores p0 live0 rope0)) (live : live0 ≡ true) (row : List ℤ) (budget : ℕ)
+module _ (s0 s1 : SchedulerState) (cores : List ℕ) (p0 p1 pj : Packet) (live0 live1 : Bool) (rope0 rope1 : Option RopeState) (inv : IsHosted (hosted s0 cores p0 live0 rope0)) (live : live0 ≡ true) (row : List ℤ) (budget : ℕ)
     (isjob : IsJob (plain_packet pj) (job_of (code_in s0).shape p0 row budget)) (seated1 : IsSeated s1) (code1 : s1.code ≡ s0.code) (places1 : s1.places ≡ s0.places) (same_rope : KeepsRope rope0 rope1) (rested1 : HasRested s1 cores) (root1 : RootRests s1)
-    (room1 : HasRoom (of_shape (code_in s0).shape) 0 (plain_packet p1)) (kind1 : (t : Thread) → Sits s1 0 t → Replies_by t p1.kind)
+    (room1 : HasRoom (of_shape (code_in s0).shape) 0 (plain_packet p1)) (kind1 : (t : Thread) → Sits s1 0 t → RepliesByKind t p1.kind)
     (replied1 : (t u : Thread) (jobs : List Job) (job : Job) → Sits s0 0 t → Sits s1 0 u → HasDone (code_in s0) t s0.mail jobs → IsJob (plain_packet pj) job → HasReplied s1 u (jobs ++ job ∷ []) (plain_packet p1))
     (outcome : Outcome) (outcome_is : outcome ≡ outcome_in p1.kind) (live_is : live1 ≡ goes_on outcome) where
   abbrev c : PlainCode
@@ -125,7 +125,7 @@ module _ (s0 s1 : State) (cores : List ℕ) (p0 p1 pj : Packet) (live0 live1 : B
     places = seated1.places;
     room = subst (λ x. HasRoom (of_shape (plain_code x).shape) 0 (plain_packet p1)) (sym code1) room1;
     root = λ here. root1;
-    ready = λ e t sits. subst (IsReady t) (sym (paused_of e)) (subst (Replies_by t) (paused_of e) (kind1 t sits));
+    ready = λ e t sits. subst (IsReady t) (sym (paused_of e)) (subst (RepliesByKind t) (paused_of e) (kind1 t sits));
     here = rested1.here;
     between = rested1.between;
     all = rested1.all;
@@ -171,7 +171,7 @@ root_posted h jobs j =
       got = j.done.posts.got;
     })
 
-pub idle_posted : (s : State) (k : ℕ) → Idle s k → HasPostedTaken (code_in s) s.mail k
+pub idle_posted : (s : SchedulerState) (k : ℕ) → Idle s k → HasPostedTaken (code_in s) s.mail k
 idle_posted s k i = record {
   jobs = i.jobs;
   are = i.are;

@@ -6,7 +6,7 @@ use Rattle.thread_code.specs.Plain.{PlainCode, plain_code}
 use Rattle.core_bells.specs.Ropes.{RopeState}
 use Rattle.core_seats.specs.declared.seat.Seat.{Seat}
 use Rattle.core_seats.specs.Posts.{Mail}
-use Rattle.core_seats.specs.Keeping.{State, Quiet}
+use Rattle.core_seats.specs.Keeping.{SchedulerState, Quiet}
 use Rattle.core_seats.specs.Loads.{is_on}
 use Rattle.core_seats.specs.Changes.{Grown}
 use Rattle.core_seats.specs.Hung.{KeepsRope}
@@ -26,11 +26,11 @@ pub record Hosted : Type 0 where
   pub live : Bool
   pub rope : Option RopeState
 
-abbrev pub hosted : State → List ℕ → Packet → Bool → Option RopeState → Hosted
+abbrev pub hosted : SchedulerState → List ℕ → Packet → Bool → Option RopeState → Hosted
 hosted s cores root live rope =
     record { code = s.code; places = s.places; cores = cores; mail = s.mail; seats = s.seats; hands = s.hands; root = root; live = live; rope = rope }
 
-abbrev pub state_in : Hosted → State
+abbrev pub state_in : Hosted → SchedulerState
 state_in h = record { code = h.code; places = h.places; mail = h.mail; seats = h.seats; hands = h.hands }
 
 -- the code whose threads the host has

@@ -8,7 +8,7 @@ use Rattle.tick_jobs.specs.Ready.{IsReady}
 use Rattle.core_seats.specs.Hung.{IsHung}
 use Rattle.tick_jobs.specs.Branches.{IsBranchOf}
 use Rattle.core_seats.specs.Keeping.{Sits, HasPacket}
-use Rattle.core_seats.specs.Waiting.{HasChild, IsBetween, CanDescend}
+use Rattle.core_seats.specs.Waiting.{HasChild, RestsOrWaits, CanDescend}
 use Rattle.core_seats.specs.Resting.{RootRests}
 use Rattle.core_host.specs.Hosted.{Hosted, state_in, code_of, is_here}
 
@@ -25,7 +25,7 @@ pub record IsHosted (h : Hosted) : Type 0 where
   pub ready : h.live ≡ true → (t : Thread) → Sits (state_in h) 0 t → IsReady t h.root.kind
   -- the child's end of the mailbox of each other thread of its cores is there, and the thread rests, or waits at a fork
   pub here : (k : ℕ) → k < length h.mail.ends → is_here h (suc k) ≡ true → HasChild h.mail k
-  pub between : (k : ℕ) → k < length h.mail.ends → HasChild h.mail k → IsBetween (state_in h) k
+  pub between : (k : ℕ) → k < length h.mail.ends → HasChild h.mail k → RestsOrWaits (state_in h) k
   -- the seat of any other is empty
   pub all : CanDescend (state_in h) 0
   -- thread 0's port is the root's, and each packet of its branches is its own

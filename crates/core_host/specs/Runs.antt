@@ -26,8 +26,8 @@ abbrev pub ticking : Hosted → Ticking
 ticking h = record { code = code_of h; root = h.root; live = h.live; HasJobs = HasJobs h }
 
 -- it has run these ticks
-abbrev pub HasRun : Hosted → List TickInput → Type 0
-HasRun h turns = Ran (ticking h) turns
+abbrev pub HostHasRun : Hosted → List TickInput → Type 0
+HostHasRun h turns = Ran (ticking h) turns
 
 -- each thread here but thread 0 was seen to have nothing to do
 abbrev pub AreIdleHere : Hosted → Hosted → Type 0

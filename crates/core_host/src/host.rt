@@ -63,7 +63,7 @@ impl<'c, P: Port<ForecWork> + Drop> Host<'c, P> {
     ghost use Rattle.core_seats.specs.Hung.{IsRopeOf};
     ghost use Rattle.core_seats.specs.Posts.{HasPosted, HasPostedTaken};
     ghost use Rattle.core_host.specs.Hosted.{code_of, is_live, is_here, IsSameHost, IsWhole};
-    ghost use Rattle.core_host.specs.Runs.{AreIdleHere, HasJobs, HasRun, IsNewHost};
+    ghost use Rattle.core_host.specs.Runs.{AreIdleHere, HasJobs, HostHasRun, IsNewHost};
     ghost use Rattle.core_host.specs.Owned.{HasOwnPort};
 
     /// The threads of these cores, over a port with the ends of their mailboxes. No tick was run.
@@ -161,7 +161,7 @@ impl<'c, P: Port<ForecWork> + Drop> Host<'c, P> {
         ensures live { is_live self.new ≡ is_live self.old }
         ensures rope { self.new.rope ≡ self.old.rope }
         ensures grown { Grown self.old.mail self.new.mail }
-        ensures turns { (turns : List TickInput) → HasRun self.old turns → HasRun self.new turns }
+        ensures turns { (turns : List TickInput) → HostHasRun self.old turns → HostHasRun self.new turns }
         ensures jobs { (jobs : List Job) → HasJobs self.old jobs → HasJobs self.new jobs }
         ensures whole { IsWhole self.old → IsWhole self.new }
     {
@@ -185,7 +185,7 @@ impl<'c, P: Port<ForecWork> + Drop> Host<'c, P> {
         requires fits { IsRopeOf self.code self.places self.cores rope }
         requires none { self.rope ≡ None }
         ensures hung { result ≡ record self.entry { rope = Some rope.entry } }
-        ensures turns { (turns : List TickInput) → HasRun self.entry turns → HasRun result turns }
+        ensures turns { (turns : List TickInput) → HostHasRun self.entry turns → HostHasRun result turns }
         ensures jobs { (jobs : List Job) → HasJobs self.entry jobs → HasJobs result jobs }
     {
         let Host {

@@ -5,7 +5,7 @@ ghost use Rattle.forec_kernel.specs.Engine.{Job};
 ghost use Rattle.copy_slots.specs.Ports.{after_stop, after_check};
 ghost use Rattle.core_seats.specs.Changes.{Grown, Looked, HasProgressed};
 ghost use Rattle.core_host.specs.Hosted.{code_of, is_here, standing, IsSameHost};
-ghost use Rattle.core_host.specs.Runs.{AreIdleHere, HasJobs, HasRun};
+ghost use Rattle.core_host.specs.Runs.{AreIdleHere, HasJobs, HostHasRun};
 
 use crate::host::Host;
 use copy_slots::Port;
@@ -86,7 +86,7 @@ impl<'c, P: Port<ForecWork> + Drop> Host<'c, P> {
         requires { is_here self.old 0 ≡ true }
         ensures stored { self.new ≡ record self.old { mail = after_stop self.old.mail } }
         ensures grown { Grown self.old.mail self.new.mail }
-        ensures turns { (turns : List TickInput) → HasRun self.old turns → HasRun self.new turns }
+        ensures turns { (turns : List TickInput) → HostHasRun self.old turns → HostHasRun self.new turns }
         ensures jobs { (jobs : List Job) → HasJobs self.old jobs → HasJobs self.new jobs }
     {
         self.scheduler.stop();

@@ -6,7 +6,7 @@ use Rattle.forec_kernel.specs.Shapes.{PlainShape}
 use Rattle.forec_kernel.specs.Texts.{params_in}
 use Rattle.forec_kernel.specs.Values.{word}
 use Rattle.thread_code.specs.Valid.{arguments_of}
-use Rattle.thread_state.specs.Frames.{arguments, args_from}
+use Rattle.thread_state.specs.Frames.{topmost_arguments, args_from}
 use Rattle.core_machine.specs.Forks.{AreThreads}
 use Rattle.thread_state.proofs.Lists.{take_next}
 
@@ -60,13 +60,13 @@ args_behind s bs k n stack =
     ap (λ total. args_from total first n stack) (sum_parts s bs k) ∙ ap (λ from. args_from (first + count) from n stack) z ∙ args_shift n count 0 first stack
 
 -- what lies after the topmost numbers
-argument_past : (n : ℕ) (stack args : List ℤ) (i : ℕ) → n ≤ length stack → get_or (arguments n stack args) (n + i) (pos 0) ≡ get_or args i (pos 0)
+argument_past : (n : ℕ) (stack args : List ℤ) (i : ℕ) → n ≤ length stack → get_or (topmost_arguments n stack args) (n + i) (pos 0) ≡ get_or args i (pos 0)
 argument_past zero stack args i le = let e : zero + i ≡ i = omega arith in ap (λ k. get_or args k (pos 0)) e
 argument_past (suc n) [] args i le = absurd (omega arith)
-argument_past (suc n) (x ∷ stack) args i le = let e : suc n + i ≡ n + suc i = omega arith in ap (λ k. get_or (arguments n stack (x ∷ args)) k (pos 0)) e ∙ argument_past n stack (x ∷ args) (suc i) (omega arith)
+argument_past (suc n) (x ∷ stack) args i le = let e : suc n + i ≡ n + suc i = omega arith in ap (λ k. get_or (topmost_arguments n stack (x ∷ args)) k (pos 0)) e ∙ argument_past n stack (x ∷ args) (suc i) (omega arith)
 
 -- the number that lies so deep among the topmost ones
-argument_at : (n : ℕ) (stack args : List ℤ) (i : ℕ) → n ≤ length stack → i < n → get_or (arguments n stack args) i (pos 0) ≡ word stack (n - 1 - i)
+argument_at : (n : ℕ) (stack args : List ℤ) (i : ℕ) → n ≤ length stack → i < n → get_or (topmost_arguments n stack args) i (pos 0) ≡ word stack (n - 1 - i)
 argument_at zero stack args i le lt = absurd (omega arith)
 argument_at (suc n) [] args i le lt = absurd (omega arith)
 argument_at (suc n) (x ∷ stack) args i le lt =
@@ -77,22 +77,22 @@ argument_at (suc n) (x ∷ stack) args i le lt =
     (λ more.
     let e : i ≡ n + 0 = omega (arith, more, lt) in
     let z : suc n - 1 - i ≡ 0 = omega (arith, more, lt) in
-    ap (λ k. get_or (arguments n stack (x ∷ args)) k (pos 0)) e ∙ argument_past n stack (x ∷ args) 0 (omega arith) ∙ sym (ap (word (x ∷ stack)) z))
+    ap (λ k. get_or (topmost_arguments n stack (x ∷ args)) k (pos 0)) e ∙ argument_past n stack (x ∷ args) 0 (omega arith) ∙ sym (ap (word (x ∷ stack)) z))
     (cases_lt i n)
 
-pub length_arguments : (n : ℕ) (stack args : List ℤ) → n ≤ length stack → length (arguments n stack args) ≡ n + length args
+pub length_arguments : (n : ℕ) (stack args : List ℤ) → n ≤ length stack → length (topmost_arguments n stack args) ≡ n + length args
 length_arguments zero stack args le = omega arith
 length_arguments (suc n) [] args le = absurd (omega arith)
 length_arguments (suc n) (x ∷ stack) args le = omega (arith, length_arguments n stack (x ∷ args) (omega arith))
 
-pub args_are : (total : ℕ) (stack : List ℤ) (n first : ℕ) → total ≤ length stack → first + n ≤ total → take n (drop first (arguments total stack [])) ≡ args_from total first n stack
-args_are total stack zero first le within = take_none (drop first (arguments total stack []))
+pub args_are : (total : ℕ) (stack : List ℤ) (n first : ℕ) → total ≤ length stack → first + n ≤ total → take n (drop first (topmost_arguments total stack [])) ≡ args_from total first n stack
+args_are total stack zero first le within = take_none (drop first (topmost_arguments total stack []))
   where
     take_none : (xs : List ℤ) → take 0 xs ≡ []
     take_none [] = refl
     take_none (x ∷ xs) = refl
 args_are total stack (suc n) first le within =
-    let xs = arguments total stack [] in
+    let xs = topmost_arguments total stack [] in
     let lt : first < length xs = omega (arith, length_arguments total stack [] le) in
     ap (take (suc n)) (drop-cons xs first (pos 0) lt)
     ∙ ap (λ x. x ∷ take n (drop (suc first) xs)) (argument_at total stack [] first le (omega arith))

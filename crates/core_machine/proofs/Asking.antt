@@ -6,13 +6,13 @@ use Rattle.forec_kernel.specs.Reached.{Reached, Inside}
 use Rattle.forec_kernel.proofs.ReachedLemmas.{Went, tells, alone_of, alone_snoc}
 use Rattle.thread_code.specs.Plain.{PlainCode}
 use Rattle.thread_code.specs.Machine.{Machine}
-use Rattle.thread_code.specs.Alone.{view_of, units_of, code_engine}
+use Rattle.thread_code.specs.Alone.{view_of, machine_units, code_engine}
 use Rattle.core_machine.specs.declared.thread.Thread.{Thread}
 use Rattle.core_machine.specs.declared.thread.Phase.TheVariants as phase
-use Rattle.core_machine.specs.Branches.{Says}
-use Rattle.core_machine.specs.Held.{machine_in, machine_of, branch_of, Waits_at, Placed}
-use Rattle.core_machine.specs.Threads.{Loaded, Stands_in, StandsFor, never, since, settling, joining, HasSettled}
-use Rattle.core_machine.specs.Forks.{seeds_in, jobs_at, Asks}
+use Rattle.core_machine.specs.Branches.{HoldsReplies}
+use Rattle.core_machine.specs.Held.{machine_in, machine_of, branch_of, WaitsAtFork, HoldsInPhase}
+use Rattle.core_machine.specs.Threads.{Loaded, StandsInPhase, StandsFor, never, since, settling, joining, HasSettled}
+use Rattle.core_machine.specs.Forks.{seeds_in, jobs_at, WritesJobs}
 
 same_count : (a b : ℕ) → a ≡ b → (a == b) ≡ true
 same_count a b h = grind (arith, nat_tests)
@@ -41,8 +41,8 @@ module _ (S : Type 0) (e : Engine S) where
 -- ---- at a fork
 
 module _ (c : PlainCode) (h : Thread) (l : Loaded c h) {k : ℕ} (at : HasSettled h k) where
-  pub waits : Waits_at c l.needs h at.before
-  waits = subst (Placed c l.needs h) at.phase l.placed
+  pub waits : WaitsAtFork c l.needs h at.before
+  waits = subst (HoldsInPhase c l.needs h) at.phase l.placed
 
   pub machine_is : machine_of c h ≡ machine_in c h (phase.Forked at.before)
   machine_is = ap (machine_in c h) at.phase
@@ -53,23 +53,23 @@ module _ (c : PlainCode) (h : Thread) (l : Loaded c h) {k : ℕ} (at : HasSettle
   pub jobs_are : jobs_at c h ≡ map (written (h.allowance - h.units)) waits.seeds
   jobs_are = ap (λ v. map (written (h.allowance - h.units)) (seeds_in v)) view_is
 
-  pub units_is : units_of (machine_of c h) ≡ h.units
-  units_is = ap units_of machine_is ∙ waits.units
+  pub units_is : machine_units (machine_of c h) ≡ h.units
+  units_is = ap machine_units machine_is ∙ waits.units
 
 module _ (c : PlainCode) (h : Thread) (l : Loaded c h) (at : HasSettled h 0) where
-  none_settled : (rs : List Reply) → Says h.branches rs → rs ≢ [] → ⊥
+  none_settled : (rs : List Reply) → HoldsReplies h.branches rs → rs ≢ [] → ⊥
   none_settled [] s some = some refl
   none_settled (r ∷ rs) s some = let n = ap length s.ended in omega (arith, n, at.count)
 
-  asks_in : (ys : List Exchange) (job : Job) (before : List (List Reply)) → h.allowance ≡ allowance_of job → Reached (code_engine c h.number) ys (Inside job before (machine_of c h)) → Asks c h.number (ys ++ record { job = job; replies = before } ∷ []) (jobs_at c h)
+  asks_in : (ys : List Exchange) (job : Job) (before : List (List Reply)) → h.allowance ≡ allowance_of job → Reached (code_engine c h.number) ys (Inside job before (machine_of c h)) → WritesJobs c h.number (ys ++ record { job = job; replies = before } ∷ []) (jobs_at c h)
   asks_in ys job before al reached =
       let e = code_engine c h.number in
       let t = tells Machine e ys (Inside job before (machine_of c h)) reached in
-      let ws = map (written (allowance_of job - units_of (machine_of c h))) (waits c h l at).seeds in
-      let same : ws ≡ jobs_at c h = ap (λ a. map (written (a - units_of (machine_of c h))) (waits c h l at).seeds) (sym al) ∙ ap (λ u. map (written (h.allowance - u)) (waits c h l at).seeds) (units_is c h l at) ∙ sym (jobs_are c h l at) in
+      let ws = map (written (allowance_of job - machine_units (machine_of c h))) (waits c h l at).seeds in
+      let same : ws ≡ jobs_at c h = ap (λ a. map (written (a - machine_units (machine_of c h))) (waits c h l at).seeds) (sym al) ∙ ap (λ u. map (written (h.allowance - u)) (waits c h l at).seeds) (units_is c h l at) ∙ sym (jobs_are c h l at) in
       let serves = went_fork Machine e (allowance_of job) before t.2 t.3 (machine_of c h) (waits c h l at).seeds t.6 (omega (arith, al, (units_is c h l at), at.within)) (view_is c h l at) in
       let out = ends_with Machine e t.3 ws in
-      subst (Asks c h.number (ys ++ record { job = job; replies = before } ∷ [])) same
+      subst (WritesJobs c h.number (ys ++ record { job = job; replies = before } ∷ [])) same
       (record {
         outputs = t.0;
         forks = t.3;
@@ -77,10 +77,10 @@ module _ (c : PlainCode) (h : Thread) (l : Loaded c h) (at : HasSettled h 0) whe
             (alone_snoc Machine e ys (record { job = job; replies = before }) Nothing t.1 Nothing t.0 t.2 out t.4 t.5 serves);
       })
 
-  pub asks : (xs : List Exchange) → StandsFor c h xs → Asks c h.number xs (jobs_at c h)
+  pub asks : (xs : List Exchange) → StandsFor c h xs → WritesJobs c h.number xs (jobs_at c h)
   asks xs (never fresh) = let e = sym fresh ∙ at.phase in cc
   asks xs (since ys job before m al reached st) =
-      let s = subst (λ p. Stands_in c h p m) at.phase st in
+      let s = subst (λ p. StandsInPhase c h p m) at.phase st in
       asks_in ys job before al (subst (λ m. Reached (code_engine c h.number) ys (Inside job before m)) (s.0 ∙ sym (machine_is c h l at)) reached)
   asks xs (settling ys job before rs al reached w some says) = absurd (none_settled rs says some)
   asks xs (joining ys job before rs m al reached e n st) = let f = sym e ∙ at.phase in cc

@@ -13,19 +13,19 @@ use Rattle.thread_code.specs.declared.instruction.Instruction.{Instruction}
 use Rattle.thread_code.specs.declared.instruction.Instruction.TheVariants as instruction
 use Rattle.thread_code.specs.Plain.{PlainCode}
 use Rattle.thread_code.specs.Valid.{branches_in, arguments_of}
-use Rattle.thread_code.specs.Machine.{Point, Own, no_total, Awaited, awaited, Machine, Waits, Merges, Failing, no_totals, all_shares, live_after, back_to, is_ended, replied, living, waking, starts, wakes, uses_of, act}
-use Rattle.thread_code.specs.Alone.{block_of, units_of}
+use Rattle.thread_code.specs.Machine.{Point, Own, no_total, Awaited, awaited, Machine, Waits, Merges, Failing, no_totals, all_shares, live_after, back_to, is_ended, replied, living, waking, starts, wakes, code_uses, act}
+use Rattle.thread_code.specs.Alone.{block_of, machine_units}
 use Rattle.combine_tree.specs.declared.joining.Fold.{Fold}
 use Rattle.combine_tree.specs.Joins.{begun, fold_at}
-use Rattle.thread_state.specs.Frames.{Frames, arguments, without, dropped}
+use Rattle.thread_state.specs.Frames.{Frames, topmost_arguments, without, dropped}
 use Rattle.thread_state.specs.Pars.{HavePars}
-use Rattle.thread_state.specs.Kept.{Kept, own_of, place_in, place_of, no_copy, with_live_at, HavePlaces, Serves}
+use Rattle.thread_state.specs.Kept.{PlainOwn, own_of, place_in, place_of, no_copy, with_live_at, HavePlaces, SuitsThread}
 use Rattle.thread_steps.specs.BlockRun.{Comes, next, work, point_of}
-use Rattle.core_machine.specs.Branches.{instruction_of, trap_of, verdict_of}
+use Rattle.core_machine.specs.Branches.{instruction_of, leftmost_trap, verdict_of}
 use Rattle.core_machine.specs.declared.branches.Verdict.TheVariants as verdict
 use Rattle.core_machine.specs.declared.thread.Thread.{Thread}
 use Rattle.core_machine.specs.declared.thread.Phase.TheVariants as phase
-use Rattle.core_machine.specs.Held.{machine_in, machine_of, AreBranches, some_use, total_in, totals_in, Below, Works, Waits_at}
+use Rattle.core_machine.specs.Held.{machine_in, machine_of, AreBranches, some_use, total_in, totals_in, Below, Works, WaitsAtFork}
 use Rattle.core_machine.specs.Threads.{Loaded, HasSettled}
 use Rattle.core_machine.specs.Merging.{AreBelow, HaveUses, marked_live, begun_uses, begun_branches}
 use Rattle.core_machine.proofs.Asking.{waits, machine_is}
@@ -40,7 +40,7 @@ use Rattle.thread_steps.proofs.Steps.{fine, put_set}
 -- ---- the place after a fork
 
 module _ (c : PlainCode) (h : Thread) (l : Loaded c h) {n : ℕ} (at : HasSettled h n) where
-  abbrev w0 : Waits_at c l.needs h at.before
+  abbrev w0 : WaitsAtFork c l.needs h at.before
   w0 = waits c h l at
 
   next_by : (i : Instruction) → slice_get (block_of c h.number).steps h.at ≡ Some i → Fork_kind c h.own i → h.at + 1 < length (block_of c h.number).steps
@@ -78,12 +78,12 @@ pub record Goes_on (c : PlainCode) (h : Thread) (to : ℕ) (S : Frames) : Type 0
   pub some : h.branches.numbers ≢ []
 
 module _ (c : PlainCode) (h : Thread) (l : Loaded c h) {n : ℕ} (at : HasSettled h n) where
-  abbrev v0 : Waits_at c l.needs h at.before
+  abbrev v0 : WaitsAtFork c l.needs h at.before
   v0 = waits c h l at
 
   same_units : (W : Awaited) (u : ℕ) → machine_in c h (phase.Forked at.before) ≡ Waits W (own_of h.own) u → machine_of c h ≡ Waits W (own_of h.own) h.units
   same_units W u e =
-      let k : u ≡ h.units = sym (ap units_of e) ∙ v0.units in
+      let k : u ≡ h.units = sym (ap machine_units e) ∙ v0.units in
       machine_is c h l at ∙ e ∙ ap (Waits W (own_of h.own)) k
 
   pub goes_on : (par to : ℕ) (again : Bool) → slice_get (block_of c h.number).steps h.at ≡ Some (cond again (instruction.Again par to) (instruction.Fork par to)) → Goes_on c h to (cond again h.stack (dropped (arguments_of c.shape h.branches.numbers) h.stack))
@@ -96,7 +96,7 @@ module _ (c : PlainCode) (h : Thread) (l : Loaded c h) {n : ℕ} (at : HasSettle
       let S = dropped (arguments_of c.shape h.branches.numbers) h.stack in
       let room = fork_room c h l at par to is in
       let long : length S.stack ≡ length h.stack.stack - arguments_of c.shape h.branches.numbers = length_without (arguments_of c.shape h.branches.numbers) h.stack.stack (omega (arith, room, count)) in
-      let W : Awaited = awaited bs (starts c h.number h.own.copies bs (arguments m h.stack.stack [])) p to (without m h.stack.stack) in
+      let W : Awaited = awaited bs (starts c h.number h.own.copies bs (topmost_arguments m h.stack.stack [])) p to (without m h.stack.stack) in
       let go : List ℤ → List ℤ → Machine = λ args rest. Waits (awaited bs (starts c h.number h.own.copies bs args) p to rest) (own_of h.own) (at.before + 1) in
       let e : machine_in c h (phase.Forked at.before) ≡ Waits W (own_of h.own) (at.before + 1) =
       ap (λ i. act c h.number i p [] (own_of h.own) at.before) is ∙ args_act m h.stack.stack [] at.before go room in
@@ -142,7 +142,7 @@ module _ (c : PlainCode) (h : Thread) (l : Loaded c h) {n : ℕ} (at : HasSettle
       }
 
   -- the frame is at work there
-  module _ (to : ℕ) (S : Frames) (g : Goes_on c h to S) (q : ℕ) (at_q : (q ≡ h.at + 1) ⊎ (q ≡ to)) (own : Kept) (serves : Serves c h.number own) (u : ℕ) where
+  module _ (to : ℕ) (S : Frames) (g : Goes_on c h to S) (q : ℕ) (at_q : (q ≡ h.at + 1) ⊎ (q ≡ to)) (own : PlainOwn) (serves : SuitsThread c h.number own) (u : ℕ) where
     pub works_there : Works false c h.number l.needs None (work q S own u)
     works_there =
         let w = v0.works in
@@ -172,7 +172,7 @@ module _ (c : PlainCode) (h : Thread) (l : Loaded c h) {n : ℕ} (at : HasSettle
 
 -- ---- the branches that live
 
-pub live_is : (bs : List ℕ) (rs : List Reply) (k : Kept) → ((b : ℕ) → IsTrue (contains b bs) → b < length k.live) → (marked_live bs (map is_ended rs) k).live ≡ live_after bs rs k.live
+pub live_is : (bs : List ℕ) (rs : List Reply) (k : PlainOwn) → ((b : ℕ) → IsTrue (contains b bs) → b < length k.live) → (marked_live bs (map is_ended rs) k).live ≡ live_after bs rs k.live
 live_is [] rs k h = refl
 live_is (b ∷ bs) [] k h = refl
 live_is (b ∷ bs) (r ∷ rs) k h =
@@ -184,32 +184,32 @@ live_is (b ∷ bs) (r ∷ rs) k h =
     later true rest h = refl
     later false rest h = h
 
-pub marked_copies : (bs : List ℕ) (es : List Bool) (k : Kept) → (marked_live bs es k).copies ≡ k.copies
+pub marked_copies : (bs : List ℕ) (es : List Bool) (k : PlainOwn) → (marked_live bs es k).copies ≡ k.copies
 marked_copies [] es k = refl
 marked_copies (b ∷ bs) [] k = refl
 marked_copies (b ∷ bs) (e ∷ es) k = marked_copies bs es (with_live_at b (not e) k)
 
-pub marked_flags : (bs : List ℕ) (es : List Bool) (k : Kept) → (marked_live bs es k).flags ≡ k.flags
+pub marked_flags : (bs : List ℕ) (es : List Bool) (k : PlainOwn) → (marked_live bs es k).flags ≡ k.flags
 marked_flags [] es k = refl
 marked_flags (b ∷ bs) [] k = refl
 marked_flags (b ∷ bs) (e ∷ es) k = marked_flags bs es (with_live_at b (not e) k)
 
-pub marked_places : (bs : List ℕ) (es : List Bool) (k : Kept) → (marked_live bs es k).places ≡ k.places
+pub marked_places : (bs : List ℕ) (es : List Bool) (k : PlainOwn) → (marked_live bs es k).places ≡ k.places
 marked_places [] es k = refl
 marked_places (b ∷ bs) [] k = refl
 marked_places (b ∷ bs) (e ∷ es) k = marked_places bs es (with_live_at b (not e) k)
 
-pub marked_pars : (bs : List ℕ) (es : List Bool) (k : Kept) → (marked_live bs es k).pars ≡ k.pars
+pub marked_pars : (bs : List ℕ) (es : List Bool) (k : PlainOwn) → (marked_live bs es k).pars ≡ k.pars
 marked_pars [] es k = refl
 marked_pars (b ∷ bs) [] k = refl
 marked_pars (b ∷ bs) (e ∷ es) k = marked_pars bs es (with_live_at b (not e) k)
 
-pub marked_length : (bs : List ℕ) (es : List Bool) (k : Kept) → length (marked_live bs es k).live ≡ length k.live
+pub marked_length : (bs : List ℕ) (es : List Bool) (k : PlainOwn) → length (marked_live bs es k).live ≡ length k.live
 marked_length [] es k = refl
 marked_length (b ∷ bs) [] k = refl
 marked_length (b ∷ bs) (e ∷ es) k = marked_length bs es (with_live_at b (not e) k) ∙ length-set k.live b (not e)
 
-pub marked_serves : (c : PlainCode) (t : ℕ) (bs : List ℕ) (es : List Bool) (k : Kept) → Serves c t k → Serves c t (marked_live bs es k)
+pub marked_serves : (c : PlainCode) (t : ℕ) (bs : List ℕ) (es : List Bool) (k : PlainOwn) → SuitsThread c t k → SuitsThread c t (marked_live bs es k)
 marked_serves c t bs es k s = record {
   copies = ap length (marked_copies bs es k) ∙ s.copies;
   places = λ v u. ap (λ l. slice_get l v) (marked_places bs es k) ∙ s.places v u;
@@ -228,23 +228,23 @@ below_of c t (x ∷ bs) h b k = by (x == b) refl k (below_of c t bs h.1 b)
 
 -- ---- folds that begin
 
-abbrev IsBegun : Kept → List Fold → ℕ → Type 0
+abbrev IsBegun : PlainOwn → List Fold → ℕ → Type 0
 IsBegun k folds p = fold_at folds p ≡ begun (get_or k.copies p no_copy)
 
-set_begun : (k : Kept) (folds : List Fold) (p q : ℕ) → q < length folds → IsBegun k folds p → IsBegun k (slice_set folds q (begun (get_or k.copies q no_copy))) p
+set_begun : (k : PlainOwn) (folds : List Fold) (p q : ℕ) → q < length folds → IsBegun k folds p → IsBegun k (slice_set folds q (begun (get_or k.copies q no_copy))) p
 set_begun k folds p q lt h =
     ⊎_elim
     (λ same. subst (λ p. IsBegun k (slice_set folds q (begun (get_or k.copies q no_copy))) p) same (get_or-set_same folds q (begun (get_or k.copies q no_copy)) _ lt))
     (λ other. get_or-set_other folds q p (begun (get_or k.copies q no_copy)) _ other ∙ h)
     (same_or_not q p)
 
-stays_begun : (k : Kept) (vs : List ℕ) (folds : List Fold) (p : ℕ) → HavePlaces k vs → length folds ≡ length k.copies → IsBegun k folds p → IsBegun k (begun_uses k vs folds) p
+stays_begun : (k : PlainOwn) (vs : List ℕ) (folds : List Fold) (p : ℕ) → HavePlaces k vs → length folds ≡ length k.copies → IsBegun k folds p → IsBegun k (begun_uses k vs folds) p
 stays_begun k [] folds p h e b = b
 stays_begun k (v ∷ vs) folds p h e b =
     let q = place_in k v in
     stays_begun k vs (slice_set folds q (begun (get_or k.copies q no_copy))) p h.2 (length-set folds q _ ∙ e) (set_begun k folds p q (omega (arith, h.1, e)) b)
 
-in_begun : (k : Kept) (vs : List ℕ) (folds : List Fold) (v : ℕ) → HavePlaces k vs → length folds ≡ length k.copies → IsTrue (contains v vs) → IsBegun k (begun_uses k vs folds) (place_in k v)
+in_begun : (k : PlainOwn) (vs : List ℕ) (folds : List Fold) (v : ℕ) → HavePlaces k vs → length folds ≡ length k.copies → IsTrue (contains v vs) → IsBegun k (begun_uses k vs folds) (place_in k v)
 in_begun k [] folds v h e c = cc
 in_begun k (x ∷ vs) folds v h e c =
     let q = place_in k x in
@@ -256,26 +256,26 @@ in_begun k (x ∷ vs) folds v h e c =
     by true e c more here = subst (λ y. IsBegun k (begun_uses k (x ∷ vs) folds) (place_in k y)) (equal_of x v e) here
     by false e c more here = more c
 
-length_uses : (k : Kept) (vs : List ℕ) (folds : List Fold) → length (begun_uses k vs folds) ≡ length folds
+length_uses : (k : PlainOwn) (vs : List ℕ) (folds : List Fold) → length (begun_uses k vs folds) ≡ length folds
 length_uses k [] folds = refl
 length_uses k (v ∷ vs) folds = length_uses k vs _ ∙ length-set folds (place_in k v) _
 
-stay_branches : (c : PlainCode) (k : Kept) (bs : List ℕ) (folds : List Fold) (p : ℕ) → HaveUses c k bs → length folds ≡ length k.copies → IsBegun k folds p → IsBegun k (begun_branches c k bs folds) p
+stay_branches : (c : PlainCode) (k : PlainOwn) (bs : List ℕ) (folds : List Fold) (p : ℕ) → HaveUses c k bs → length folds ≡ length k.copies → IsBegun k folds p → IsBegun k (begun_branches c k bs folds) p
 stay_branches c k [] folds p h e b = b
-stay_branches c k (x ∷ bs) folds p h e b = stay_branches c k bs (begun_uses k (uses_of c x) folds) p h.2 (length_uses k (uses_of c x) folds ∙ e) (stays_begun k (uses_of c x) folds p h.1 e b)
+stay_branches c k (x ∷ bs) folds p h e b = stay_branches c k bs (begun_uses k (code_uses c x) folds) p h.2 (length_uses k (code_uses c x) folds ∙ e) (stays_begun k (code_uses c x) folds p h.1 e b)
 
-pub begun_there : (c : PlainCode) (k : Kept) (bs : List ℕ) (folds : List Fold) (v : ℕ) → HaveUses c k bs → length folds ≡ length k.copies → some_use c bs v ≡ true → IsBegun k (begun_branches c k bs folds) (place_in k v)
+pub begun_there : (c : PlainCode) (k : PlainOwn) (bs : List ℕ) (folds : List Fold) (v : ℕ) → HaveUses c k bs → length folds ≡ length k.copies → some_use c bs v ≡ true → IsBegun k (begun_branches c k bs folds) (place_in k v)
 begun_there c k [] folds v h e u = cc
 begun_there c k (x ∷ bs) folds v h e u =
-    by (contains v (uses_of c x)) refl u (λ u. begun_there c k bs (begun_uses k (uses_of c x) folds) v h.2 (length_uses k (uses_of c x) folds ∙ e) u)
+    by (contains v (code_uses c x)) refl u (λ u. begun_there c k bs (begun_uses k (code_uses c x) folds) v h.2 (length_uses k (code_uses c x) folds ∙ e) u)
   where
-    by : (t : Bool) → contains v (uses_of c x) ≡ t → (t || some_use c bs v) ≡ true → (some_use c bs v ≡ true → IsBegun k (begun_branches c k (x ∷ bs) folds) (place_in k v)) → IsBegun k (begun_branches c k (x ∷ bs) folds) (place_in k v)
-    by true here u more = stay_branches c k bs (begun_uses k (uses_of c x) folds) (place_in k v) h.2 (length_uses k (uses_of c x) folds ∙ e) (in_begun k (uses_of c x) folds v h.1 e here)
+    by : (t : Bool) → contains v (code_uses c x) ≡ t → (t || some_use c bs v) ≡ true → (some_use c bs v ≡ true → IsBegun k (begun_branches c k (x ∷ bs) folds) (place_in k v)) → IsBegun k (begun_branches c k (x ∷ bs) folds) (place_in k v)
+    by true here u more = stay_branches c k bs (begun_uses k (code_uses c x) folds) (place_in k v) h.2 (length_uses k (code_uses c x) folds ∙ e) (in_begun k (code_uses c x) folds v h.1 e here)
     by false here u more = more u
 
-pub have_uses : (c : PlainCode) (t : ℕ) (k : Kept) → Serves c t k → (bs : List ℕ) → AreBranches c t bs → HaveUses c k bs
+pub have_uses : (c : PlainCode) (t : ℕ) (k : PlainOwn) → SuitsThread c t k → (bs : List ℕ) → AreBranches c t bs → HaveUses c k bs
 have_uses c t k s [] h = tt
-have_uses c t k s (b ∷ bs) h = (h.0.thread, have_places c t k s (uses_of c b) h.0.uses, have_uses c t k s bs h.1)
+have_uses c t k s (b ∷ bs) h = (h.0.thread, have_places c t k s (code_uses c b) h.0.uses, have_uses c t k s bs h.1)
 
 -- ---- each variable has one place
 
@@ -320,7 +320,7 @@ totals_none c bs (v ∷ uses) (f ∷ folds) (x ∷ copies) e k h =
 
 -- ---- what the replies say
 
-trap_not_over : (rs : List Reply) → trap_of rs ≡ verdict.Over → ⊥
+trap_not_over : (rs : List Reply) → leftmost_trap rs ≡ verdict.Over → ⊥
 trap_not_over [] e = cc
 trap_not_over (WasPaused copies u ∷ rs) e = trap_not_over rs e
 trap_not_over (WasEnded copies u ∷ rs) e = trap_not_over rs e
@@ -330,33 +330,33 @@ trap_not_over (WasOver ∷ rs) e = trap_not_over rs e
 pub over_by : (rs : List Reply) → verdict_of rs ≡ verdict.Over → some_reply_over rs ≡ true
 over_by rs e = by (some_reply_over rs) refl e
   where
-    by : (t : Bool) → some_reply_over rs ≡ t → cond t verdict.Over (trap_of rs) ≡ verdict.Over → t ≡ true
+    by : (t : Bool) → some_reply_over rs ≡ t → cond t verdict.Over (leftmost_trap rs) ≡ verdict.Over → t ≡ true
     by true k e = refl
     by false k e = absurd (trap_not_over rs e)
 
-pub not_over : (rs : List Reply) → verdict_of rs ≢ verdict.Over → (some_reply_over rs ≡ false) × (verdict_of rs ≡ trap_of rs)
+pub not_over : (rs : List Reply) → verdict_of rs ≢ verdict.Over → (some_reply_over rs ≡ false) × (verdict_of rs ≡ leftmost_trap rs)
 not_over rs no_more = by (some_reply_over rs) refl
   where
-    by : (t : Bool) → some_reply_over rs ≡ t → (t ≡ false) × (cond t verdict.Over (trap_of rs) ≡ trap_of rs)
-    by true k = absurd (no_more (ap (λ t. cond t verdict.Over (trap_of rs)) k))
+    by : (t : Bool) → some_reply_over rs ≡ t → (t ≡ false) × (cond t verdict.Over (leftmost_trap rs) ≡ leftmost_trap rs)
+    by true k = absurd (no_more (ap (λ t. cond t verdict.Over (leftmost_trap rs)) k))
     by false k = (refl, refl)
 
-pub replied_units : (c : PlainCode) (t : ℕ) (w : Awaited) (rs more : List Reply) (o : Own) (u : ℕ) → units_of (replied c t w rs more o u) ≡ u
+pub replied_units : (c : PlainCode) (t : ℕ) (w : Awaited) (rs more : List Reply) (o : Own) (u : ℕ) → machine_units (replied c t w rs more o u) ≡ u
 replied_units c t w rs [] o u = refl
 replied_units c t w rs (WasPaused copies v ∷ more) o u = replied_units c t w rs more o u
 replied_units c t w rs (WasEnded copies v ∷ more) o u = replied_units c t w rs more o u
 replied_units c t w rs (WasTrapped place trap v ∷ more) o u = refl
 replied_units c t w rs (WasOver ∷ more) o u = replied_units c t w rs more o u
 
-pub replied_trap : (c : PlainCode) (t : ℕ) (w : Awaited) (rs more : List Reply) (o : Own) (u : ℕ) (place : _) (trap : _) → trap_of more ≡ verdict.Trap place trap → replied c t w rs more o u ≡ Failing place trap u
+pub replied_trap : (c : PlainCode) (t : ℕ) (w : Awaited) (rs more : List Reply) (o : Own) (u : ℕ) (place : _) (trap : _) → leftmost_trap more ≡ verdict.Trap place trap → replied c t w rs more o u ≡ Failing place trap u
 replied_trap c t w rs [] o u place trap e = cc
 replied_trap c t w rs (WasPaused copies v ∷ more) o u place trap e = replied_trap c t w rs more o u place trap e
 replied_trap c t w rs (WasEnded copies v ∷ more) o u place trap e = replied_trap c t w rs more o u place trap e
 replied_trap c t w rs (WasTrapped p q v ∷ more) o u place trap e = let a : p ≡ place = cc in let b : q ≡ trap = cc in ap (λ p. Failing p q u) a ∙ ap (λ q. Failing place q u) b
 replied_trap c t w rs (WasOver ∷ more) o u place trap e = replied_trap c t w rs more o u place trap e
 
-pub replied_all : (c : PlainCode) (t : ℕ) (w : Awaited) (rs more : List Reply) (o : Own) (u : ℕ) → trap_of more ≡ verdict.Combine →
-    replied c t w rs more o u ≡ Merges (record { left = all_shares c w.branches rs; totals = no_totals (uses_of c t) o.copies; back = back_to w rs }) (record o { live = live_after w.branches rs o.live }) u
+pub replied_all : (c : PlainCode) (t : ℕ) (w : Awaited) (rs more : List Reply) (o : Own) (u : ℕ) → leftmost_trap more ≡ verdict.Combine →
+    replied c t w rs more o u ≡ Merges (record { left = all_shares c w.branches rs; totals = no_totals (code_uses c t) o.copies; back = back_to w rs }) (record o { live = live_after w.branches rs o.live }) u
 replied_all c t w rs [] o u e = refl
 replied_all c t w rs (WasPaused copies v ∷ more) o u e = replied_all c t w rs more o u e
 replied_all c t w rs (WasEnded copies v ∷ more) o u e = replied_all c t w rs more o u e
@@ -381,14 +381,14 @@ in_uses v (x ∷ vs) uses h k = by (contains x uses) (all_in vs uses) refl h (x 
     by true b q h false e k more = more h k
     by false b q h e f k more = cc
 
-pub use_in : (c : PlainCode) (t : ℕ) (bs : List ℕ) → AreBranches c t bs → (v : ℕ) → some_use c bs v ≡ true → IsTrue (contains v (uses_of c t))
+pub use_in : (c : PlainCode) (t : ℕ) (bs : List ℕ) → AreBranches c t bs → (v : ℕ) → some_use c bs v ≡ true → IsTrue (contains v (code_uses c t))
 use_in c t [] h v u = cc
-use_in c t (b ∷ bs) h v u = by (contains v (uses_of c b)) refl u (use_in c t bs h.1 v)
+use_in c t (b ∷ bs) h v u = by (contains v (code_uses c b)) refl u (use_in c t bs h.1 v)
   where
-    by : (q : Bool) → contains v (uses_of c b) ≡ q → (q || some_use c bs v) ≡ true → (some_use c bs v ≡ true → IsTrue (contains v (uses_of c t))) → IsTrue (contains v (uses_of c t))
-    by true here u more = in_uses v (uses_of c b) (uses_of c t) h.0.uses here
+    by : (q : Bool) → contains v (code_uses c b) ≡ q → (q || some_use c bs v) ≡ true → (some_use c bs v ≡ true → IsTrue (contains v (code_uses c t))) → IsTrue (contains v (code_uses c t))
+    by true here u more = in_uses v (code_uses c b) (code_uses c t) h.0.uses here
     by false here u more = more u
 
-pub all_below_live : (c : PlainCode) (t : ℕ) (k : Kept) → Serves c t k → (bs : List ℕ) → AreBranches c t bs → AreBelow (length k.live) bs
+pub all_below_live : (c : PlainCode) (t : ℕ) (k : PlainOwn) → SuitsThread c t k → (bs : List ℕ) → AreBranches c t bs → AreBelow (length k.live) bs
 all_below_live c t k s [] h = tt
 all_below_live c t k s (b ∷ bs) h = (omega (arith, h.0.thread, s.live), all_below_live c t k s bs h.1)

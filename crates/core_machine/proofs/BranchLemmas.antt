@@ -9,7 +9,7 @@ use Rattle.forec_kernel.specs.Texts.{params_in}
 use Rattle.forec_kernel.specs.WellFormed.{all_in, branches_of, is_par, blank_thread}
 use Rattle.thread_code.specs.Plain.{PlainCode}
 use Rattle.thread_code.specs.Valid.{IsValidCode, IsParOf, branches_in}
-use Rattle.thread_code.specs.Machine.{living, starts, wakes, uses_of}
+use Rattle.thread_code.specs.Machine.{living, starts, wakes, code_uses}
 use Rattle.core_machine.specs.Branches.{chosen}
 use Rattle.core_machine.specs.Held.{branch_of, IsBranch, AreBranches}
 use Rattle.core_machine.specs.Forks.{AreThreads}
@@ -106,7 +106,7 @@ module _ (c : PlainCode) (valid : IsValidCode c) (t j : ℕ) (p : IsParOf c.shap
       let child = valid.shape.each_child b some below in
       let owner : t ≡ p.owner = let e = p.is in cc in
       let same : child.parent ≡ t = let e = sym child.is ∙ p.parent b h in let k : child.parent ≡ p.owner = cc in k ∙ sym owner in
-      record { thread = below; uses = subst (λ q. IsTrue (all_in (uses_of c b) (uses_of c q))) same child.uses }
+      record { thread = below; uses = subst (λ q. IsTrue (all_in (code_uses c b) (code_uses c q))) same child.uses }
     where
       zero_or : (b : ℕ) → (b ≡ 0) ⊎ (0 < b)
       zero_or zero = inl refl

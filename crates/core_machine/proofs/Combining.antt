@@ -6,15 +6,15 @@ use Rattle.forec_kernel.specs.Engine.{run_for}
 use Rattle.forec_kernel.specs.Combining.{contains}
 use Rattle.forec_kernel.specs.WellFormed.{all_in}
 use Rattle.thread_code.specs.Plain.{PlainCode}
-use Rattle.thread_code.specs.Machine.{BranchCopy, shares_of, step, uses_of}
+use Rattle.thread_code.specs.Machine.{BranchCopy, shares_of, step, code_uses}
 use Rattle.thread_state.specs.Kept.{no_copy}
 use Rattle.core_machine.specs.declared.branches.Verdict.{Verdict}
 use Rattle.core_machine.specs.declared.branches.Verdict.TheVariants as verdict
 use Rattle.core_machine.specs.declared.thread.Thread.{Thread}
 use Rattle.core_machine.specs.declared.thread.Phase.TheVariants as phase
-use Rattle.core_machine.specs.Held.{Placed, Joins, IsBranch, some_use}
+use Rattle.core_machine.specs.Held.{HoldsInPhase, Joins, IsBranch, some_use}
 use Rattle.core_machine.specs.Threads.{Loaded, Exceeds}
-use Rattle.core_machine.specs.Merging.{merging_with, Joining_on, Comes_by, Combined}
+use Rattle.core_machine.specs.Merging.{merging_with, GoesOnJoining, ComesByVerdict, Combined}
 use Rattle.thread_steps.proofs.Advance.{run_add}
 use Rattle.core_machine.proofs.BranchLemmas.{same_self}
 use Rattle.thread_state.proofs.Lists.{take_next}
@@ -41,10 +41,10 @@ nth_in [] i lt = absurd (omega arith)
 nth_in (v ∷ vs) zero lt = subst (λ x. IsTrue (cond x true (contains v vs))) (sym (same_self v)) refl
 nth_in (v ∷ vs) (suc i) lt = later (v == get_or vs i 0) (contains (get_or vs i 0) vs) (nth_in vs i (omega arith))
 
-pub some_at : (c : PlainCode) (bs : List ℕ) (v k : ℕ) → k < length bs → IsTrue (contains v (uses_of c (get_or bs k 0))) → some_use c bs v ≡ true
+pub some_at : (c : PlainCode) (bs : List ℕ) (v k : ℕ) → k < length bs → IsTrue (contains v (code_uses c (get_or bs k 0))) → some_use c bs v ≡ true
 some_at c [] v k lt h = absurd (omega arith)
 some_at c (b ∷ bs) v zero lt h = ap (λ x. x || some_use c bs v) h
-some_at c (b ∷ bs) v (suc k) lt h = ap (λ x. contains v (uses_of c b) || x) (some_at c bs v k (omega arith) h) ∙ or_true (contains v (uses_of c b))
+some_at c (b ∷ bs) v (suc k) lt h = ap (λ x. contains v (code_uses c b) || x) (some_at c bs v k (omega arith) h) ∙ or_true (contains v (code_uses c b))
   where
     or_true : (b : Bool) → (b || true) ≡ true
     or_true true = refl
@@ -72,11 +72,11 @@ shares_next vs copies i e lt = take_next (shares_of vs copies) i blank_share (om
 pub combined_none : (c : PlainCode) (h : Thread) → Loaded c h → h.phase ≡ phase.Joining → h.branches.verdict ≡ verdict.Combine → Combined c h h []
 combined_none c h l p e = record {
   on = record { loaded = l; phase = p; number = refl; allowance = refl; numbers = refl; joined = refl };
-  runs = λ rest. subst (Comes_by c h (merging_with c h rest) rest) (sym e) (0, refl);
+  runs = λ rest. subst (ComesByVerdict c h (merging_with c h rest) rest) (sym e) (0, refl);
 }
 
 module _ (c : PlainCode) (a b d : Thread) (s t : List BranchCopy) (x : Combined c a b s) where
-  pub on_then : Joining_on c b d → Joining_on c a d
+  pub on_then : GoesOnJoining c b d → GoesOnJoining c a d
   on_then y = record {
     loaded = y.loaded;
     phase = y.phase;
@@ -86,15 +86,15 @@ module _ (c : PlainCode) (a b d : Thread) (s t : List BranchCopy) (x : Combined 
     joined = y.joined ∙ x.on.joined;
   }
 
-  runs_then : b.branches.verdict ≡ verdict.Combine → d.number ≡ b.number → (rest : List BranchCopy) (v : Verdict) → Comes_by c d (merging_with c b (t ++ rest)) rest v → Comes_by c d (merging_with c a ((s ++ t) ++ rest)) rest v
+  runs_then : b.branches.verdict ≡ verdict.Combine → d.number ≡ b.number → (rest : List BranchCopy) (v : Verdict) → ComesByVerdict c d (merging_with c b (t ++ rest)) rest v → ComesByVerdict c d (merging_with c a ((s ++ t) ++ rest)) rest v
   runs_then go n rest v more =
-      let k = subst (Comes_by c b (merging_with c a (s ++ (t ++ rest))) (t ++ rest)) go (x.runs (t ++ rest)) in
+      let k = subst (ComesByVerdict c b (merging_with c a (s ++ (t ++ rest))) (t ++ rest)) go (x.runs (t ++ rest)) in
       let e : run_for (step c d.number) k.0 (merging_with c a ((s ++ t) ++ rest)) ≡ merging_with c b (t ++ rest) =
       ap (λ l. run_for (step c d.number) k.0 (merging_with c a l)) (append_assoc s t rest)
       ∙ subst (λ q. run_for (step c q) k.0 (merging_with c a (s ++ (t ++ rest))) ≡ merging_with c b (t ++ rest)) (sym n) k.1 in
       by v k.0 e more
     where
-      by : (v : Verdict) (n : ℕ) → run_for (step c d.number) n (merging_with c a ((s ++ t) ++ rest)) ≡ merging_with c b (t ++ rest) → Comes_by c d (merging_with c b (t ++ rest)) rest v → Comes_by c d (merging_with c a ((s ++ t) ++ rest)) rest v
+      by : (v : Verdict) (n : ℕ) → run_for (step c d.number) n (merging_with c a ((s ++ t) ++ rest)) ≡ merging_with c b (t ++ rest) → ComesByVerdict c d (merging_with c b (t ++ rest)) rest v → ComesByVerdict c d (merging_with c a ((s ++ t) ++ rest)) rest v
       by verdict.Combine n e more = (n + more.0, run_add (step c d.number) n more.0 (merging_with c a ((s ++ t) ++ rest)) ∙ ap (run_for (step c d.number) more.0) e ∙ more.1)
       by (verdict.Trap place trap) n e more = (n + more.0, run_add (step c d.number) n more.0 (merging_with c a ((s ++ t) ++ rest)) ∙ ap (run_for (step c d.number) more.0) e ∙ more.1)
       by verdict.Over n e more = (n + more.0, subst (Exceeds d.allowance) (sym (run_add (step c d.number) n more.0 (merging_with c a ((s ++ t) ++ rest)) ∙ ap (run_for (step c d.number) more.0) e)) more.1)
@@ -106,20 +106,20 @@ module _ (c : PlainCode) (a b d : Thread) (s t : List BranchCopy) (x : Combined 
 pub combined_stop : (c : PlainCode) (a b : Thread) (s t : List BranchCopy) → Combined c a b s → b.branches.verdict ≢ verdict.Combine → Combined c a b (s ++ t)
 combined_stop c a b s t x no_more = record { on = x.on; runs = λ rest. by b.branches.verdict refl rest (x.runs (t ++ rest)) }
   where
-    by : (v : Verdict) → b.branches.verdict ≡ v → (rest : List BranchCopy) → Comes_by c b (merging_with c a (s ++ (t ++ rest))) (t ++ rest) b.branches.verdict → Comes_by c b (merging_with c a ((s ++ t) ++ rest)) rest b.branches.verdict
+    by : (v : Verdict) → b.branches.verdict ≡ v → (rest : List BranchCopy) → ComesByVerdict c b (merging_with c a (s ++ (t ++ rest))) (t ++ rest) b.branches.verdict → ComesByVerdict c b (merging_with c a ((s ++ t) ++ rest)) rest b.branches.verdict
     by verdict.Combine e rest k = absurd (no_more e)
     by (verdict.Trap place trap) e rest k =
-        let k' = subst (Comes_by c b (merging_with c a (s ++ (t ++ rest))) (t ++ rest)) e k in
-        subst (Comes_by c b (merging_with c a ((s ++ t) ++ rest)) rest) (sym e) (k'.0, ap (λ l. run_for (step c b.number) k'.0 (merging_with c a l)) (append_assoc s t rest) ∙ k'.1)
+        let k' = subst (ComesByVerdict c b (merging_with c a (s ++ (t ++ rest))) (t ++ rest)) e k in
+        subst (ComesByVerdict c b (merging_with c a ((s ++ t) ++ rest)) rest) (sym e) (k'.0, ap (λ l. run_for (step c b.number) k'.0 (merging_with c a l)) (append_assoc s t rest) ∙ k'.1)
     by verdict.Over e rest k =
-        let k' = subst (Comes_by c b (merging_with c a (s ++ (t ++ rest))) (t ++ rest)) e k in
-        subst (Comes_by c b (merging_with c a ((s ++ t) ++ rest)) rest) (sym e) (k'.0, subst (Exceeds b.allowance) (sym (ap (λ l. run_for (step c b.number) k'.0 (merging_with c a l)) (append_assoc s t rest))) k'.1)
+        let k' = subst (ComesByVerdict c b (merging_with c a (s ++ (t ++ rest))) (t ++ rest)) e k in
+        subst (ComesByVerdict c b (merging_with c a ((s ++ t) ++ rest)) rest) (sym e) (k'.0, subst (Exceeds b.allowance) (sym (ap (λ l. run_for (step c b.number) k'.0 (merging_with c a l)) (append_assoc s t rest))) k'.1)
 
 -- ---- branches that are joined
 
 module _ (c : PlainCode) (h : Thread) (l : Loaded c h) (joining : h.phase ≡ phase.Joining) where
   pub joins_of : Joins c l.needs h
-  joins_of = subst (Placed c l.needs h) joining l.placed
+  joins_of = subst (HoldsInPhase c l.needs h) joining l.placed
 
   pub joined_branch : (k : ℕ) → k < length h.branches.numbers → IsBranch c h.number (get_or h.branches.numbers k 0)
   joined_branch k lt = branch_in c h.number h.branches.numbers k joins_of.branches lt

@@ -8,7 +8,7 @@ use Rattle.forec_kernel.specs.Shapes.{PlainKernel}
 use Rattle.forec_kernel.specs.Combining.{contains, variable_of}
 use Rattle.thread_code.specs.Plain.{PlainCode}
 use Rattle.thread_code.specs.Valid.{of_shape}
-use Rattle.thread_code.specs.Machine.{BranchCopy, shares_of, uses_of}
+use Rattle.thread_code.specs.Machine.{BranchCopy, shares_of, code_uses}
 use Rattle.thread_state.specs.Kept.{no_copy}
 use Rattle.thread_state.proofs.Indexed.{equal_of}
 use Rattle.core_machine.specs.declared.branches.Verdict.TheVariants as verdict
@@ -34,7 +34,7 @@ passed_more kernel vs copies from to h unmarked marks i le lt = by (i == to) ref
     by false e = h i le (earlier i to lt e)
 
 module _ (c : PlainCode) (h0 h : Thread) (vs : List ℕ) (copies : List VarCopy) (long : length copies ≡ length vs)
-    (used : (i : ℕ) → i < length vs → IsTrue (contains (get_or vs i 0) (uses_of c h0.number)))
+    (used : (i : ℕ) → i < length vs → IsTrue (contains (get_or vs i 0) (code_uses c h0.number)))
     (some : (i : ℕ) → i < length vs → some_use c h0.branches.numbers (get_or vs i 0) ≡ true) where
   abbrev shares : List BranchCopy
   shares = shares_of vs copies
@@ -43,7 +43,7 @@ module _ (c : PlainCode) (h0 h : Thread) (vs : List ℕ) (copies : List VarCopy)
       Combined c h0 h (take i shares) → Combined c h0 h (take (i + 1) shares)
   one_passed i lt unmarked marks x =
       let share : BranchCopy = record { variable = get_or vs i 0; copy = get_or copies i no_copy } in
-      let used_here = subst (λ t. IsTrue (contains (get_or vs i 0) (uses_of c t))) (sym x.on.number) (used i lt) in
+      let used_here = subst (λ t. IsTrue (contains (get_or vs i 0) (code_uses c t))) (sym x.on.number) (used i lt) in
       let some_here = subst (λ bs. some_use c bs (get_or vs i 0) ≡ true) (sym x.on.numbers) (some i lt) in
       subst (Combined c h0 h) (sym (shares_next vs copies i long lt))
       (⊎_elim

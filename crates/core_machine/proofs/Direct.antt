@@ -11,14 +11,14 @@ use Rattle.forec_kernel.specs.Packets.{PlainPacket, IsPaused, IsEnded, IsTrapped
 use Rattle.forec_kernel.specs.Packed.{HasRoom, IsJob, IsReply}
 use Rattle.thread_code.specs.Plain.{PlainCode}
 use Rattle.thread_code.specs.Valid.{of_shape}
-use Rattle.thread_code.specs.Machine.{uses_of}
+use Rattle.thread_code.specs.Machine.{code_uses}
 use Rattle.thread_state.specs.Kept.{place_in, no_copy, handed_by}
 use Rattle.thread_state.proofs.FrameLemmas.{length_args}
 use Rattle.core_machine.specs.declared.branches.Verdict.TheVariants as verdict
 use Rattle.core_machine.specs.declared.thread.Thread.{Thread}
 use Rattle.core_machine.specs.declared.thread.Phase.{Phase}
 use Rattle.core_machine.specs.declared.thread.Phase.TheVariants as phase
-use Rattle.core_machine.specs.Branches.{Gathered, with_verdict, first_trap, noted, counted, Says, Adds}
+use Rattle.core_machine.specs.Branches.{Gathered, with_verdict, first_verdict, noted_ending, with_more_units, HoldsReplies, AddsReply}
 use Rattle.core_machine.specs.Held.{branch_of}
 use Rattle.core_machine.specs.Threads.{Loaded, IsAtFork, HasPaused}
 use Rattle.core_machine.specs.Forks.{branch_at, jobs_at}
@@ -50,8 +50,8 @@ module _ (c : PlainCode) (h : Thread) (l : Loaded c h) (at : IsAtFork h) (k : �
       let j = job_there in
       subst (λ (w : Written). CanTake b w.job) (again_job c h l at held.0 held.1 held.2 k j.0 j.1) (can j.0 j.1)
 
-  long_copies : length (handed_by h.own (uses_of c (branch_at h k))) ≡ length (uses_of c (branch_at h k))
-  long_copies = length-map (uses_of c (branch_at h k)) (λ v. record { value = (get_or h.own.copies (place_in h.own v) no_copy).value; modified = false })
+  long_copies : length (handed_by h.own (code_uses c (branch_at h k))) ≡ length (code_uses c (branch_at h k))
+  long_copies = length-map (code_uses c (branch_at h k)) (λ v. record { value = (get_or h.own.copies (place_in h.own v) no_copy).value; modified = false })
 
   pub start_room_is : (b : ℕ) → b ≡ branch_at h k → HasRoom (of_shape c.shape) b (start_packet c h k)
   start_room_is b e = subst (λ b. HasRoom (of_shape c.shape) b (start_packet c h k)) (sym e) (record { args = length_args _ _ _ _; copies = long_copies })
@@ -96,39 +96,39 @@ reply_paused h copies u (inr a) = paused_in h h.phase copies u refl a.0 a.1
 -- ---- it is settled
 
 module _ (g : Gathered) (h : Thread) where
-  pub adds_over : (h.allowance < h.units) → Adds g (RepliesBy h) (with_verdict verdict.Over (noted false g))
+  pub adds_over : (h.allowance < h.units) → AddsReply g (RepliesBy h) (with_verdict verdict.Over (noted_ending false g))
   adds_over past = record { fork = refl; numbers = refl; joined = refl; room = refl; count = count_one g.ended false; says = by }
     where
-      by : (rs : List Reply) (r : Reply) → RepliesBy h r → Says g rs → Says (with_verdict verdict.Over (noted false g)) (rs ++ r ∷ [])
-      by rs r (inl a) s = subst (λ r. Says (with_verdict verdict.Over (noted false g)) (rs ++ r ∷ [])) (sym a.1) (says_over g (with_verdict verdict.Over (noted false g)) rs s refl refl refl)
+      by : (rs : List Reply) (r : Reply) → RepliesBy h r → HoldsReplies g rs → HoldsReplies (with_verdict verdict.Over (noted_ending false g)) (rs ++ r ∷ [])
+      by rs r (inl a) s = subst (λ r. HoldsReplies (with_verdict verdict.Over (noted_ending false g)) (rs ++ r ∷ [])) (sym a.1) (says_over g (with_verdict verdict.Over (noted_ending false g)) rs s refl refl refl)
       by rs r (inr a) s = absurd (omega (arith, past, a.0))
 
   module _ (le : h.units ≤ h.allowance) where
     adds_in : (p : Phase) (g' : Gathered) → h.phase ≡ p → g'.fork ≡ g.fork → g'.numbers ≡ g.numbers → g'.joined ≡ g.joined → g'.room ≡ g.room → length g'.ended ≡ length g.ended + 1 →
-        ((rs : List Reply) (r : Reply) → RepliesIn h p r → Says g rs → Says g' (rs ++ r ∷ [])) → Adds g (RepliesBy h) g'
+        ((rs : List Reply) (r : Reply) → RepliesIn h p r → HoldsReplies g rs → HoldsReplies g' (rs ++ r ∷ [])) → AddsReply g (RepliesBy h) g'
     adds_in p g' e fork numbers joined room count more = record { fork = fork; numbers = numbers; joined = joined; room = room; count = count; says = by }
       where
-        by : (rs : List Reply) (r : Reply) → RepliesBy h r → Says g rs → Says g' (rs ++ r ∷ [])
+        by : (rs : List Reply) (r : Reply) → RepliesBy h r → HoldsReplies g rs → HoldsReplies g' (rs ++ r ∷ [])
         by rs r (inl a) s = absurd (omega (arith, le, a.0))
         by rs r (inr a) s = more rs r (subst (λ p. RepliesIn h p r) e a.1) s
 
-    pub adds_paused : h.phase ≡ phase.Paused → Adds g (RepliesBy h) (counted h.units (noted false g))
+    pub adds_paused : h.phase ≡ phase.Paused → AddsReply g (RepliesBy h) (with_more_units h.units (noted_ending false g))
     adds_paused e =
-        let g' = counted h.units (noted false g) in
+        let g' = with_more_units h.units (noted_ending false g) in
         adds_in phase.Paused g' e refl refl refl refl (count_one g.ended false)
-        (λ rs r a s. subst (λ r. Says g' (rs ++ r ∷ [])) (sym a) (says_plain g g' rs s (WasPaused h.own.copies h.units) refl refl refl refl refl))
+        (λ rs r a s. subst (λ r. HoldsReplies g' (rs ++ r ∷ [])) (sym a) (says_plain g g' rs s (WasPaused h.own.copies h.units) refl refl refl refl refl))
 
-    pub adds_ended : h.phase ≡ phase.Ended → Adds g (RepliesBy h) (counted h.units (noted true g))
+    pub adds_ended : h.phase ≡ phase.Ended → AddsReply g (RepliesBy h) (with_more_units h.units (noted_ending true g))
     adds_ended e =
-        let g' = counted h.units (noted true g) in
+        let g' = with_more_units h.units (noted_ending true g) in
         adds_in phase.Ended g' e refl refl refl refl (count_one g.ended true)
-        (λ rs r a s. subst (λ r. Says g' (rs ++ r ∷ [])) (sym a) (says_plain g g' rs s (WasEnded h.own.copies h.units) refl refl refl refl refl))
+        (λ rs r a s. subst (λ r. HoldsReplies g' (rs ++ r ∷ [])) (sym a) (says_plain g g' rs s (WasEnded h.own.copies h.units) refl refl refl refl refl))
 
-    pub adds_trap : (place : Place) (trap : Trap) → h.phase ≡ phase.Trapped place trap → Adds g (RepliesBy h) (with_verdict (first_trap g.verdict (verdict.Trap place trap)) (counted h.units (noted false g)))
+    pub adds_trap : (place : Place) (trap : Trap) → h.phase ≡ phase.Trapped place trap → AddsReply g (RepliesBy h) (with_verdict (first_verdict g.verdict (verdict.Trap place trap)) (with_more_units h.units (noted_ending false g)))
     adds_trap place trap e =
-        let g' = with_verdict (first_trap g.verdict (verdict.Trap place trap)) (counted h.units (noted false g)) in
+        let g' = with_verdict (first_verdict g.verdict (verdict.Trap place trap)) (with_more_units h.units (noted_ending false g)) in
         adds_in (phase.Trapped place trap) g' e refl refl refl refl (count_one g.ended false)
-        (λ rs r a s. subst (λ r. Says g' (rs ++ r ∷ [])) (sym a) (says_trap g g' rs s place trap h.units refl refl refl))
+        (λ rs r a s. subst (λ r. HoldsReplies g' (rs ++ r ∷ [])) (sym a) (says_trap g g' rs s place trap h.units refl refl refl))
 
     over_or_none : (p : Phase) → (p ≡ phase.Paused → ⊥) → (p ≡ phase.Ended → ⊥) → ((place : Place) (trap : Trap) → p ≡ phase.Trapped place trap → ⊥) → (r : Reply) → RepliesIn h p r → r ≡ WasOver
     over_or_none phase.Fresh a b d r is = absurd is
@@ -140,11 +140,11 @@ module _ (g : Gathered) (h : Thread) where
     over_or_none (phase.Trapped place trap) a b d r is = absurd (d place trap refl)
     over_or_none phase.Over a b d r is = is
 
-    pub adds_else : (h.phase ≡ phase.Paused → ⊥) → (h.phase ≡ phase.Ended → ⊥) → ((place : Place) (trap : Trap) → h.phase ≡ phase.Trapped place trap → ⊥) → Adds g (RepliesBy h) (with_verdict verdict.Over (noted false g))
+    pub adds_else : (h.phase ≡ phase.Paused → ⊥) → (h.phase ≡ phase.Ended → ⊥) → ((place : Place) (trap : Trap) → h.phase ≡ phase.Trapped place trap → ⊥) → AddsReply g (RepliesBy h) (with_verdict verdict.Over (noted_ending false g))
     adds_else a b d =
-        let g' = with_verdict verdict.Over (noted false g) in
+        let g' = with_verdict verdict.Over (noted_ending false g) in
         adds_in h.phase g' refl refl refl refl refl (count_one g.ended false)
-        (λ rs r is s. subst (λ r. Says g' (rs ++ r ∷ [])) (sym (over_or_none h.phase a b d r is)) (says_over g g' rs s refl refl refl))
+        (λ rs r is s. subst (λ r. HoldsReplies g' (rs ++ r ∷ [])) (sym (over_or_none h.phase a b d r is)) (says_over g g' rs s refl refl refl))
 
 -- ---- it is joined
 

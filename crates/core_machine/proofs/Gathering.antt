@@ -19,7 +19,7 @@ use Rattle.combine_tree.specs.declared.packet.Packet.{Packet}
 use Rattle.combine_tree.specs.declared.packet.PacketKind.{PacketKind}
 use Rattle.combine_tree.specs.declared.packet.PacketKind.TheVariants as kind
 use Rattle.combine_tree.specs.Plain.{plain_kind, plain_packet}
-use Rattle.core_machine.specs.Branches.{Gathered, chosen, with_verdict, first_trap, noted, counted, trap_of, verdict_of, SaturatesTo, Says, Settles}
+use Rattle.core_machine.specs.Branches.{Gathered, chosen, with_verdict, first_verdict, noted_ending, with_more_units, leftmost_trap, verdict_of, SaturatesTo, HoldsReplies, SettlesPacket}
 
 -- ---- all of a list
 
@@ -83,30 +83,30 @@ over_more (x ∷ rs) r = ap (λ b. is_over_reply x || b) (over_more rs r) ∙ or
     or_assoc true b c = refl
     or_assoc false b c = refl
 
-trap_more : (rs : List Reply) (r : Reply) → trap_of (rs ++ r ∷ []) ≡ first_trap (trap_of rs) (trap_of (r ∷ []))
+trap_more : (rs : List Reply) (r : Reply) → leftmost_trap (rs ++ r ∷ []) ≡ first_verdict (leftmost_trap rs) (leftmost_trap (r ∷ []))
 trap_more [] r = refl
 trap_more (WasPaused copies u ∷ rs) r = trap_more rs r
 trap_more (WasEnded copies u ∷ rs) r = trap_more rs r
 trap_more (WasTrapped place trap u ∷ rs) r = refl
 trap_more (WasOver ∷ rs) r = trap_more rs r
 
-verdict_by : (o : Bool) (t : Verdict) (v : Verdict) → cond (o || false) verdict.Over (first_trap t v) ≡ first_trap (cond o verdict.Over t) v
+verdict_by : (o : Bool) (t : Verdict) (v : Verdict) → cond (o || false) verdict.Over (first_verdict t v) ≡ first_verdict (cond o verdict.Over t) v
 verdict_by true t v = refl
 verdict_by false t v = refl
 
-still : (t : Verdict) → first_trap t verdict.Combine ≡ t
+still : (t : Verdict) → first_verdict t verdict.Combine ≡ t
 still verdict.Combine = refl
 still (verdict.Trap place trap) = refl
 still verdict.Over = refl
 
-verdict_trap : (rs : List Reply) (r : Reply) → is_over_reply r ≡ false → verdict_of (rs ++ r ∷ []) ≡ first_trap (verdict_of rs) (trap_of (r ∷ []))
+verdict_trap : (rs : List Reply) (r : Reply) → is_over_reply r ≡ false → verdict_of (rs ++ r ∷ []) ≡ first_verdict (verdict_of rs) (leftmost_trap (r ∷ []))
 verdict_trap rs r not =
-    ap (λ o. cond o verdict.Over (trap_of (rs ++ r ∷ []))) (over_more rs r ∙ ap (λ b. some_reply_over rs || b) not)
+    ap (λ o. cond o verdict.Over (leftmost_trap (rs ++ r ∷ []))) (over_more rs r ∙ ap (λ b. some_reply_over rs || b) not)
     ∙ ap (λ t. cond (some_reply_over rs || false) verdict.Over t) (trap_more rs r)
-    ∙ verdict_by (some_reply_over rs) (trap_of rs) (trap_of (r ∷ []))
+    ∙ verdict_by (some_reply_over rs) (leftmost_trap rs) (leftmost_trap (r ∷ []))
 
 verdict_over : (rs : List Reply) → verdict_of (rs ++ WasOver ∷ []) ≡ verdict.Over
-verdict_over rs = ap (λ o. cond o verdict.Over (trap_of (rs ++ WasOver ∷ []))) (over_more rs WasOver ∙ or_true (some_reply_over rs))
+verdict_over rs = ap (λ o. cond o verdict.Over (leftmost_trap (rs ++ WasOver ∷ []))) (over_more rs WasOver ∙ or_true (some_reply_over rs))
   where
     or_true : (b : Bool) → (b || true) ≡ true
     or_true true = refl
@@ -124,23 +124,23 @@ counts_more n s u (inl e) = by_size (⊎_elim (λ lt. inr lt) (λ le. inl le) (c
     by_size (inr lt) = inr (omega (arith, lt), omega (arith, e, lt))
 counts_more n s u (inr h) = inr (omega (arith, h.0), omega (arith, h.1))
 
-module _ (g g' : Gathered) (rs : List Reply) (s : Says g rs) where
+module _ (g g' : Gathered) (rs : List Reply) (s : HoldsReplies g rs) where
   -- a reply that adds nothing but its units
-  pub says_plain : (r : Reply) → is_over_reply r ≡ false → trap_of (r ∷ []) ≡ verdict.Combine → g'.ended ≡ g.ended ++ is_ended r ∷ [] → g'.units ≡ min (g.units + reply_units r) (2 ^ 64 - 1) → g'.verdict ≡ g.verdict → Says g' (rs ++ r ∷ [])
+  pub says_plain : (r : Reply) → is_over_reply r ≡ false → leftmost_trap (r ∷ []) ≡ verdict.Combine → g'.ended ≡ g.ended ++ is_ended r ∷ [] → g'.units ≡ min (g.units + reply_units r) (2 ^ 64 - 1) → g'.verdict ≡ g.verdict → HoldsReplies g' (rs ++ r ∷ [])
   says_plain r not none e u v = record {
     ended = e ∙ ap (λ l. l ++ is_ended r ∷ []) s.ended ∙ sym (ended_more rs r);
     units = subst (λ n. SaturatesTo g'.units n) (sym (units_more rs r)) (subst (λ n. SaturatesTo n (all_units rs + reply_units r)) (sym u) (counts_more g.units (all_units rs) (reply_units r) s.units));
-    verdict = v ∙ s.verdict ∙ sym (verdict_trap rs r not ∙ ap (first_trap (verdict_of rs)) none ∙ still (verdict_of rs));
+    verdict = v ∙ s.verdict ∙ sym (verdict_trap rs r not ∙ ap (first_verdict (verdict_of rs)) none ∙ still (verdict_of rs));
   }
 
-  pub says_trap : (place : Place) (trap : Trap) (w : ℕ) → g'.ended ≡ g.ended ++ false ∷ [] → g'.units ≡ min (g.units + w) (2 ^ 64 - 1) → g'.verdict ≡ first_trap g.verdict (verdict.Trap place trap) → Says g' (rs ++ WasTrapped place trap w ∷ [])
+  pub says_trap : (place : Place) (trap : Trap) (w : ℕ) → g'.ended ≡ g.ended ++ false ∷ [] → g'.units ≡ min (g.units + w) (2 ^ 64 - 1) → g'.verdict ≡ first_verdict g.verdict (verdict.Trap place trap) → HoldsReplies g' (rs ++ WasTrapped place trap w ∷ [])
   says_trap place trap w e u v = record {
     ended = e ∙ ap (λ l. l ++ false ∷ []) s.ended ∙ sym (ended_more rs (WasTrapped place trap w));
     units = subst (λ n. SaturatesTo g'.units n) (sym (units_more rs (WasTrapped place trap w))) (subst (λ n. SaturatesTo n (all_units rs + w)) (sym u) (counts_more g.units (all_units rs) w s.units));
-    verdict = v ∙ ap (λ x. first_trap x (verdict.Trap place trap)) s.verdict ∙ sym (verdict_trap rs (WasTrapped place trap w) refl);
+    verdict = v ∙ ap (λ x. first_verdict x (verdict.Trap place trap)) s.verdict ∙ sym (verdict_trap rs (WasTrapped place trap w) refl);
   }
 
-  pub says_over : g'.ended ≡ g.ended ++ false ∷ [] → g'.units ≡ g.units → g'.verdict ≡ verdict.Over → Says g' (rs ++ WasOver ∷ [])
+  pub says_over : g'.ended ≡ g.ended ++ false ∷ [] → g'.units ≡ g.units → g'.verdict ≡ verdict.Over → HoldsReplies g' (rs ++ WasOver ∷ [])
   says_over e u v =
       let z : all_units (rs ++ WasOver ∷ []) ≡ all_units rs = omega (arith, units_more rs WasOver) in
       record {
@@ -194,49 +194,49 @@ count_one (x ∷ es) e = omega (arith, count_one es e)
 
 module _ (g : Gathered) (p : Packet) where
   -- whatever says nothing but its units and whether it ended
-  plain_by : (e : Bool) (rs : List Reply) (r : Reply) → is_over_reply r ≡ false → trap_of (r ∷ []) ≡ verdict.Combine → is_ended r ≡ e → p.units ≡ reply_units r → Says g rs → Says (counted p.units (noted e g)) (rs ++ r ∷ [])
+  plain_by : (e : Bool) (rs : List Reply) (r : Reply) → is_over_reply r ≡ false → leftmost_trap (r ∷ []) ≡ verdict.Combine → is_ended r ≡ e → p.units ≡ reply_units r → HoldsReplies g rs → HoldsReplies (with_more_units p.units (noted_ending e g)) (rs ++ r ∷ [])
   plain_by e rs r not none ended units s =
-      says_plain g (counted p.units (noted e g)) rs s r not none (ap (λ b. g.ended ++ b ∷ []) (sym ended)) (ap (λ n. min (g.units + n) (2 ^ 64 - 1)) units) refl
+      says_plain g (with_more_units p.units (noted_ending e g)) rs s r not none (ap (λ b. g.ended ++ b ∷ []) (sym ended)) (ap (λ n. min (g.units + n) (2 ^ 64 - 1)) units) refl
 
-  pub settles_ended : p.kind ≡ kind.Ended → Settles g p (counted p.units (noted true g))
+  pub settles_ended : p.kind ≡ kind.Ended → SettlesPacket g p (with_more_units p.units (noted_ending true g))
   settles_ended k = record { fork = refl; numbers = refl; joined = refl; room = refl; count = count_one g.ended true; says = by_reply }
     where
-      by_reply : (rs : List Reply) (r : Reply) → IsReply (plain_packet p) r → Says g rs → Says (counted p.units (noted true g)) (rs ++ r ∷ [])
+      by_reply : (rs : List Reply) (r : Reply) → IsReply (plain_packet p) r → HoldsReplies g rs → HoldsReplies (with_more_units p.units (noted_ending true g)) (rs ++ r ∷ [])
       by_reply rs (WasPaused copies u) is s = let e = sym is.0 ∙ ap (λ k. plain_kind k) k in cc
       by_reply rs (WasEnded copies u) is s = plain_by true rs (WasEnded copies u) refl refl refl is.2 s
       by_reply rs (WasTrapped place trap u) is s = let e = sym is.0 ∙ ap (λ k. plain_kind k) k in cc
       by_reply rs WasOver is s = let e = sym is ∙ ap (λ k. plain_kind k) k in cc
 
-  pub settles_over : p.kind ≡ kind.Over → Settles g p (with_verdict verdict.Over (noted false g))
+  pub settles_over : p.kind ≡ kind.Over → SettlesPacket g p (with_verdict verdict.Over (noted_ending false g))
   settles_over k = record { fork = refl; numbers = refl; joined = refl; room = refl; count = count_one g.ended false; says = by_reply }
     where
-      by_reply : (rs : List Reply) (r : Reply) → IsReply (plain_packet p) r → Says g rs → Says (with_verdict verdict.Over (noted false g)) (rs ++ r ∷ [])
+      by_reply : (rs : List Reply) (r : Reply) → IsReply (plain_packet p) r → HoldsReplies g rs → HoldsReplies (with_verdict verdict.Over (noted_ending false g)) (rs ++ r ∷ [])
       by_reply rs (WasPaused copies u) is s = let e = sym is.0 ∙ ap (λ k. plain_kind k) k in cc
       by_reply rs (WasEnded copies u) is s = let e = sym is.0 ∙ ap (λ k. plain_kind k) k in cc
       by_reply rs (WasTrapped place trap u) is s = let e = sym is.0 ∙ ap (λ k. plain_kind k) k in cc
-      by_reply rs WasOver is s = says_over g (with_verdict verdict.Over (noted false g)) rs s refl refl refl
+      by_reply rs WasOver is s = says_over g (with_verdict verdict.Over (noted_ending false g)) rs s refl refl refl
 
-  pub settles_trap : (place : Place) (trap : Trap) → p.kind ≡ kind.Trapped place trap → Settles g p (with_verdict (first_trap g.verdict (verdict.Trap place trap)) (counted p.units (noted false g)))
+  pub settles_trap : (place : Place) (trap : Trap) → p.kind ≡ kind.Trapped place trap → SettlesPacket g p (with_verdict (first_verdict g.verdict (verdict.Trap place trap)) (with_more_units p.units (noted_ending false g)))
   settles_trap place trap k = record { fork = refl; numbers = refl; joined = refl; room = refl; count = count_one g.ended false; says = by_reply }
     where
       g' : Gathered
-      g' = with_verdict (first_trap g.verdict (verdict.Trap place trap)) (counted p.units (noted false g))
+      g' = with_verdict (first_verdict g.verdict (verdict.Trap place trap)) (with_more_units p.units (noted_ending false g))
 
-      by_reply : (rs : List Reply) (r : Reply) → IsReply (plain_packet p) r → Says g rs → Says (with_verdict (first_trap g.verdict (verdict.Trap place trap)) (counted p.units (noted false g))) (rs ++ r ∷ [])
+      by_reply : (rs : List Reply) (r : Reply) → IsReply (plain_packet p) r → HoldsReplies g rs → HoldsReplies (with_verdict (first_verdict g.verdict (verdict.Trap place trap)) (with_more_units p.units (noted_ending false g))) (rs ++ r ∷ [])
       by_reply rs (WasPaused copies u) is s = let e = sym is.0 ∙ ap (λ k. plain_kind k) k in cc
       by_reply rs (WasEnded copies u) is s = let e = sym is.0 ∙ ap (λ k. plain_kind k) k in cc
       by_reply rs (WasTrapped q r u) is s =
           let e : kind.Trapped q r ≡ kind.Trapped place trap = sym (of_trapped p.kind q r is.0) ∙ k in
           let a : place ≡ q = cc in
           let b : trap ≡ r = cc in
-          says_trap g (with_verdict (first_trap g.verdict (verdict.Trap place trap)) (counted p.units (noted false g))) rs s q r u refl (ap (λ n. min (g.units + n) (2 ^ 64 - 1)) is.1)
-          (ap (λ x. first_trap g.verdict (verdict.Trap x trap)) a ∙ ap (λ x. first_trap g.verdict (verdict.Trap q x)) b)
+          says_trap g (with_verdict (first_verdict g.verdict (verdict.Trap place trap)) (with_more_units p.units (noted_ending false g))) rs s q r u refl (ap (λ n. min (g.units + n) (2 ^ 64 - 1)) is.1)
+          (ap (λ x. first_verdict g.verdict (verdict.Trap x trap)) a ∙ ap (λ x. first_verdict g.verdict (verdict.Trap q x)) b)
       by_reply rs WasOver is s = let e = sym is ∙ ap (λ k. plain_kind k) k in cc
 
-  pub settles_else : (p.kind ≡ kind.Ended → ⊥) → ((place : Place) (trap : Trap) → p.kind ≡ kind.Trapped place trap → ⊥) → (p.kind ≡ kind.Over → ⊥) → Settles g p (counted p.units (noted false g))
+  pub settles_else : (p.kind ≡ kind.Ended → ⊥) → ((place : Place) (trap : Trap) → p.kind ≡ kind.Trapped place trap → ⊥) → (p.kind ≡ kind.Over → ⊥) → SettlesPacket g p (with_more_units p.units (noted_ending false g))
   settles_else no_end no_trap no_over = record { fork = refl; numbers = refl; joined = refl; room = refl; count = count_one g.ended false; says = by_reply }
     where
-      by_reply : (rs : List Reply) (r : Reply) → IsReply (plain_packet p) r → Says g rs → Says (counted p.units (noted false g)) (rs ++ r ∷ [])
+      by_reply : (rs : List Reply) (r : Reply) → IsReply (plain_packet p) r → HoldsReplies g rs → HoldsReplies (with_more_units p.units (noted_ending false g)) (rs ++ r ∷ [])
       by_reply rs (WasPaused copies u) is s = plain_by false rs (WasPaused copies u) refl refl refl is.2 s
       by_reply rs (WasEnded copies u) is s = absurd (no_end (of_ended p.kind is.0))
       by_reply rs (WasTrapped q r u) is s = absurd (no_trap q r (of_trapped p.kind q r is.0))

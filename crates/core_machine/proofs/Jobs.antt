@@ -21,24 +21,24 @@ use Rattle.forec_kernel.proofs.Same.{one_stop, not_both}
 use Rattle.thread_code.specs.Plain.{PlainBlock, PlainCode}
 use Rattle.thread_code.specs.Valid.{IsBlock, IsValidCode, of_shape, thread_scope}
 use Rattle.thread_code.specs.Machine.{Own, Machine, On, Trapped, Stuck, step}
-use Rattle.thread_code.specs.Alone.{block_of, started, woken, view_of, units_of, code_engine}
+use Rattle.thread_code.specs.Alone.{block_of, started_machine, woken_machine, view_of, machine_units, code_engine}
 use Rattle.thread_code.proofs.Steady.{code_steady}
 use Rattle.thread_code.proofs.Unstuck.{never_stuck}
 use Rattle.combine_tree.specs.declared.packet.PacketKind.{PacketKind}
 use Rattle.combine_tree.specs.declared.packet.PacketKind.TheVariants as kind
-use Rattle.thread_state.specs.Frames.{Frames, started as started_frames}
-use Rattle.core_machine.specs.Branches.{Says}
-use Rattle.thread_state.specs.Kept.{Kept, begun as begun_kept, with_copies, Serves}
+use Rattle.thread_state.specs.Frames.{Frames, started_frames as started_frames}
+use Rattle.core_machine.specs.Branches.{HoldsReplies}
+use Rattle.thread_state.specs.Kept.{PlainOwn, begun_own as begun_kept, with_copies, SuitsThread}
 use Rattle.thread_steps.specs.BlockRun.{block_for, first, work, point_of}
 use Rattle.core_machine.specs.declared.thread.Thread.{Thread}
 use Rattle.core_machine.specs.declared.thread.Phase.{Phase}
 use Rattle.core_machine.specs.declared.thread.Phase.TheVariants as phase
 use Rattle.core_machine.specs.declared.thread.Event.{Event}
 use Rattle.core_machine.specs.declared.thread.Event.TheVariants as event
-use Rattle.core_machine.specs.Held.{callers, machine_in, machine_of, Works, Placed}
-use Rattle.core_machine.specs.Threads.{Loaded, Exceeds, Stands_in, Stands_at, Waits_for, StandsFor, never, since, settling, joining, event_of, Tells, passes, reaches, IsResting, Rests_in, HasReply, HasPaused, Runs_in, CanRun, Left_by, CanBegin, Gives}
+use Rattle.core_machine.specs.Held.{callers, machine_in, machine_of, Works, HoldsInPhase}
+use Rattle.core_machine.specs.Threads.{Loaded, Exceeds, StandsInPhase, StandsAtMachine, WaitsForReplies, StandsFor, never, since, settling, joining, event_of, HasEvent, passes, reaches, IsResting, RestsInPhase, HasReply, HasPaused, RunsInPhase, CanRun, LeftByEvent, CanBegin, RepliesToLast}
 use Rattle.core_machine.specs.Direct.{RepliesIn, RepliesBy, GivesFor}
-use Rattle.core_machine.specs.RunParts.{Has_machine, CanStop, started_by, woken_by, Begun, Moved, Shown, over, comes, Comes_to}
+use Rattle.core_machine.specs.RunParts.{HasMachine, CanStop, started_by, woken_by, Begun, Moved, Shown, over, comes, ComesToEvent}
 use Rattle.core_machine.proofs.Outer.{empty_of}
 use Rattle.core_machine.proofs.Told.{all_then, told}
 
@@ -70,13 +70,13 @@ module _ (c : PlainCode) (valid : IsValidCode c) (h : Thread) (l : Loaded c h) (
   abbrev frames : Frames
   frames = started_frames p.args b.words b.counters h.stack.room h.stack.most
 
-  abbrev kept : Kept
+  abbrev kept : PlainOwn
   kept = begun_kept p.copies h.own
 
   abbrev started_thread : Thread
   started_thread = record { number = h.number; phase = phase.Running false; function = None; at = 0; stack = frames; own = kept; units = 0; allowance = p.allowance; branches = h.branches; joining = h.joining }
 
-  serves : Serves c h.number kept
+  serves : SuitsThread c h.number kept
   serves = record {
     copies = room.copies;
     places = l.serves.places;
@@ -150,10 +150,10 @@ module _ (c : PlainCode) (h : Thread) (l : Loaded c h) (asleep : HasPaused h) (p
   abbrev woken_thread : Thread
   woken_thread = record { number = h.number; phase = phase.Running false; function = h.function; at = h.at; stack = h.stack; own = with_copies p.copies h.own; units = 0; allowance = p.allowance; branches = h.branches; joining = h.joining }
 
-  placed_here : Placed c l.needs h phase.Paused
-  placed_here = subst (Placed c l.needs h) asleep.phase l.placed
+  placed_here : HoldsInPhase c l.needs h phase.Paused
+  placed_here = subst (HoldsInPhase c l.needs h) asleep.phase l.placed
 
-  woken_serves : Serves c h.number (with_copies p.copies h.own)
+  woken_serves : SuitsThread c h.number (with_copies p.copies h.own)
   woken_serves = record { copies = room.copies; places = l.serves.places; flags = l.serves.flags; live = l.serves.live; pars = l.serves.pars }
 
   woken_works : Works false c h.number l.needs None (work h.at h.stack (with_copies p.copies h.own) 0)
@@ -213,7 +213,7 @@ module _ (c : PlainCode) (h : Thread) (l : Loaded c h) (asleep : HasPaused h) (p
 
 -- ---- where a thread stands
 
-units_in : (c : PlainCode) (h : Thread) (l : Loaded c h) (p : Phase) → Has_machine p → Placed c l.needs h p → units_of (machine_in c h p) ≡ h.units
+units_in : (c : PlainCode) (h : Thread) (l : Loaded c h) (p : Phase) → HasMachine p → HoldsInPhase c l.needs h p → machine_units (machine_in c h p) ≡ h.units
 units_in c h l phase.Fresh k e = sym e
 units_in c h l (phase.Running folding) k e = refl
 units_in c h l (phase.Forked before) k e = e.units
@@ -223,12 +223,12 @@ units_in c h l phase.Ended k e = refl
 units_in c h l (phase.Trapped place trap) k e = refl
 units_in c h l phase.Over k e = absurd k
 
-pub units_are : (c : PlainCode) (h : Thread) → Loaded c h → Has_machine h.phase → units_of (machine_of c h) ≡ h.units
+pub units_are : (c : PlainCode) (h : Thread) → Loaded c h → HasMachine h.phase → machine_units (machine_of c h) ≡ h.units
 units_are c h l k = units_in c h l h.phase k l.placed
 
-not_fresh : (c : PlainCode) → IsValidCode c → (h : Thread) → Loaded c h → (xs : List Exchange) (job : Job) (before : List (List Reply)) (m : Machine) → Reached (code_engine c h.number) xs (Inside job before m) → Stands_at c h m → h.phase ≢ phase.Fresh
+not_fresh : (c : PlainCode) → IsValidCode c → (h : Thread) → Loaded c h → (xs : List Exchange) (job : Job) (before : List (List Reply)) (m : Machine) → Reached (code_engine c h.number) xs (Inside job before m) → StandsAtMachine c h m → h.phase ≢ phase.Fresh
 not_fresh c valid h l xs job before m reached st fresh =
-    let e : m ≡ Stuck 0 = subst (λ p. Stands_in c h p m) fresh st in
+    let e : m ≡ Stuck 0 = subst (λ p. StandsInPhase c h p m) fresh st in
     never_stuck c valid h.number l.thread xs job before (Stuck 0) (subst (λ m. Reached (code_engine c h.number) xs (Inside job before m)) e reached)
 
 -- ---- the end of a job
@@ -245,18 +245,18 @@ rest_in c h _ = Nothing
 
 -- how a job ends with this reply: its units pass the allowance, or it comes to an event
 data Concludes (c : PlainCode) (h : Thread) (m : Machine) (o : Reply) (r : Rest Machine) : Type 0 where
-  by_event : units_of m ≤ h.allowance → Closes (code_engine c h.number) m (view_of m) o r → Concludes c h m o r
-  by_units : h.allowance < units_of m → o ≡ WasOver → r ≡ Nothing → Concludes c h m o r
+  by_event : machine_units m ≤ h.allowance → Closes (code_engine c h.number) m (view_of m) o r → Concludes c h m o r
+  by_units : h.allowance < machine_units m → o ≡ WasOver → r ≡ Nothing → Concludes c h m o r
 
 exceeding : (c : PlainCode) (h : Thread) (m : Machine) → Exceeds h.allowance m → Concludes c h m WasOver Nothing
 exceeding c h m (inl past) = by_units past refl refl
 exceeding c h m (inr e) =
     ⊎_elim (λ past. by_units past refl refl) (λ le. by_event le (subst (λ v. Closes (code_engine c h.number) m v WasOver Nothing) (sym e) (refl, refl)))
-    (cases_lt h.allowance (units_of m))
+    (cases_lt h.allowance (machine_units m))
 
 module _ (c : PlainCode) (h : Thread) (l : Loaded c h) (m : Machine) where
   -- within the allowance
-  concludes_in : (p : Phase) → p ≢ phase.Fresh → Placed c l.needs h p → Rests_in h p → Stands_in c h p m → h.units ≤ h.allowance → Concludes c h m (reply_in h p) (rest_in c h p)
+  concludes_in : (p : Phase) → p ≢ phase.Fresh → HoldsInPhase c l.needs h p → RestsInPhase h p → StandsInPhase c h p m → h.units ≤ h.allowance → Concludes c h m (reply_in h p) (rest_in c h p)
   concludes_in phase.Fresh fresh pl rests st le = absurd (fresh refl)
   concludes_in (phase.Running folding) fresh pl rests st le = absurd (omega (arith, rests.0, le))
   concludes_in (phase.Forked before) fresh pl rests st le = absurd (omega (arith, rests, le))
@@ -267,22 +267,22 @@ module _ (c : PlainCode) (h : Thread) (l : Loaded c h) (m : Machine) where
   concludes_in phase.Over fresh pl rests st le = exceeding c h m st
 
   -- past the allowance
-  past_in : (p : Phase) → p ≢ phase.Fresh → Placed c l.needs h p → Rests_in h p → Stands_in c h p m → h.allowance < h.units → Concludes c h m WasOver Nothing
+  past_in : (p : Phase) → p ≢ phase.Fresh → HoldsInPhase c l.needs h p → RestsInPhase h p → StandsInPhase c h p m → h.allowance < h.units → Concludes c h m WasOver Nothing
   past_in phase.Fresh fresh pl rests st past = absurd (fresh refl)
-  past_in (phase.Running folding) fresh pl rests st past = by_units (subst (λ m. h.allowance < units_of m) (sym st) past) refl refl
-  past_in (phase.Forked before) fresh pl rests st past = by_units (subst (λ m. h.allowance < units_of m) (sym st.0) (let u = pl.units in omega (arith, past, u))) refl refl
+  past_in (phase.Running folding) fresh pl rests st past = by_units (subst (λ m. h.allowance < machine_units m) (sym st) past) refl refl
+  past_in (phase.Forked before) fresh pl rests st past = by_units (subst (λ m. h.allowance < machine_units m) (sym st.0) (let u = pl.units in omega (arith, past, u))) refl refl
   past_in phase.Joining fresh pl rests st past = absurd rests
-  past_in phase.Paused fresh pl rests st past = by_units (subst (λ m. h.allowance < units_of m) (sym st) past) refl refl
-  past_in phase.Ended fresh pl rests st past = by_units (subst (λ m. h.allowance < units_of m) (sym st) past) refl refl
-  past_in (phase.Trapped place trap) fresh pl rests st past = by_units (subst (λ m. h.allowance < units_of m) (sym st) past) refl refl
+  past_in phase.Paused fresh pl rests st past = by_units (subst (λ m. h.allowance < machine_units m) (sym st) past) refl refl
+  past_in phase.Ended fresh pl rests st past = by_units (subst (λ m. h.allowance < machine_units m) (sym st) past) refl refl
+  past_in (phase.Trapped place trap) fresh pl rests st past = by_units (subst (λ m. h.allowance < machine_units m) (sym st) past) refl refl
   past_in phase.Over fresh pl rests st past = exceeding c h m st
 
 -- a thread that rests has no fork open
-no_settling : (h : Thread) → IsResting h → Waits_for h → ⊥
-no_settling h rests w = let r : h.allowance < h.units = subst (Rests_in h) w.phase rests in omega (arith, r, w.within)
+no_settling : (h : Thread) → IsResting h → WaitsForReplies h → ⊥
+no_settling h rests w = let r : h.allowance < h.units = subst (RestsInPhase h) w.phase rests in omega (arith, r, w.within)
 
 no_joining : (h : Thread) → IsResting h → h.phase ≡ phase.Joining → ⊥
-no_joining h rests e = subst (Rests_in h) e rests
+no_joining h rests e = subst (RestsInPhase h) e rests
 
 last_of : (os : List Output) (o : Output) → last_reply (os ++ o ∷ []) ≡ o.reply
 last_of [] o = refl
@@ -362,20 +362,20 @@ module _ (c : PlainCode) (h : Thread) (l : Loaded c h) where
     over_for past is xs (settling ys job before rs al reached w some says) = absurd (no_settling h done.resting w)
     over_for past is xs (joining ys job before rs m al reached e n st) = absurd (no_joining h done.resting e)
 
-  by_packet : (xs : List Exchange) (p : PlainPacket) → GivesFor c h.number xs (IsReply p) → Gives c h.number xs p
+  by_packet : (xs : List Exchange) (p : PlainPacket) → GivesFor c h.number xs (IsReply p) → RepliesToLast c h.number xs p
   by_packet xs p g = record { outputs = g.outputs; runs = g.runs; complete = g.complete; reply = g.reply; last = g.last; is = g.is }
 
   -- the packet that a reply fills
   module _ (done : HasReply h) (p : PlainPacket) where
-    pub gives_reply : (h.units ≤ h.allowance) → IsReply p (reply_in h h.phase) → (xs : List Exchange) → StandsFor c h xs → Gives c h.number xs p
+    pub gives_reply : (h.units ≤ h.allowance) → IsReply p (reply_in h h.phase) → (xs : List Exchange) → StandsFor c h xs → RepliesToLast c h.number xs p
     gives_reply le is xs stands = by_packet xs p (reply_for done (IsReply p) le is xs stands)
 
-    pub gives_over : (h.allowance < h.units) → IsReply p WasOver → (xs : List Exchange) → StandsFor c h xs → Gives c h.number xs p
+    pub gives_over : (h.allowance < h.units) → IsReply p WasOver → (xs : List Exchange) → StandsFor c h xs → RepliesToLast c h.number xs p
     gives_over past is xs stands = by_packet xs p (over_for done (IsReply p) past is xs stands)
 
   -- ---- the reply of the thread itself
 
-  replies_in : (p : Phase) → p ≢ phase.Fresh → Rests_in h p → h.units ≤ h.allowance → RepliesIn h p (reply_in h p)
+  replies_in : (p : Phase) → p ≢ phase.Fresh → RestsInPhase h p → h.units ≤ h.allowance → RepliesIn h p (reply_in h p)
   replies_in phase.Fresh some rests le = absurd (some refl)
   replies_in (phase.Running folding) some rests le = absurd (omega (arith, rests.0, le))
   replies_in (phase.Forked before) some rests le = absurd (omega (arith, rests, le))
@@ -413,10 +413,10 @@ is_wake h kind.Ended n b = absurd b
 is_wake h (kind.Trapped place trap) n b = absurd b
 is_wake h kind.Over n b = absurd b
 
-pub at_running : (c : PlainCode) (h : Thread) (folding : Bool) → h.phase ≡ phase.Running folding → Stands_at c h (machine_of c h)
-at_running c h folding e = subst (λ p. Stands_in c h p (machine_in c h p)) (sym e) refl
+pub at_running : (c : PlainCode) (h : Thread) (folding : Bool) → h.phase ≡ phase.Running folding → StandsAtMachine c h (machine_of c h)
+at_running c h folding e = subst (λ p. StandsInPhase c h p (machine_in c h p)) (sym e) refl
 
-stands_in_phase : (c : PlainCode) (h : Thread) (p : Phase) → Has_machine p → ((before : ℕ) → p ≡ phase.Forked before → Says h.branches []) → Stands_in c h p (machine_in c h p)
+stands_in_phase : (c : PlainCode) (h : Thread) (p : Phase) → HasMachine p → ((before : ℕ) → p ≡ phase.Forked before → HoldsReplies h.branches []) → StandsInPhase c h p (machine_in c h p)
 stands_in_phase c h phase.Fresh k quiet = refl
 stands_in_phase c h (phase.Running folding) k quiet = refl
 stands_in_phase c h (phase.Forked before) k quiet = (refl, quiet before refl)
@@ -426,13 +426,13 @@ stands_in_phase c h phase.Ended k quiet = refl
 stands_in_phase c h (phase.Trapped place trap) k quiet = refl
 stands_in_phase c h phase.Over k quiet = absurd k
 
-at_event : (c : PlainCode) (h : Thread) → Has_machine h.phase → ((before : ℕ) → h.phase ≡ phase.Forked before → Says h.branches []) → Stands_at c h (machine_of c h)
+at_event : (c : PlainCode) (h : Thread) → HasMachine h.phase → ((before : ℕ) → h.phase ≡ phase.Forked before → HoldsReplies h.branches []) → StandsAtMachine c h (machine_of c h)
 at_event c h k quiet = stands_in_phase c h h.phase k quiet
 
-stands_running : (c : PlainCode) (h : Thread) (m : Machine) → h.phase ≡ phase.Running false → Stands_at c h m → m ≡ machine_of c h
-stands_running c h m e st = let k : m ≡ machine_in c h (phase.Running false) = subst (λ p. Stands_in c h p m) e st in k ∙ sym (ap (machine_in c h) e)
+stands_running : (c : PlainCode) (h : Thread) (m : Machine) → h.phase ≡ phase.Running false → StandsAtMachine c h m → m ≡ machine_of c h
+stands_running c h m e st = let k : m ≡ machine_in c h (phase.Running false) = subst (λ p. StandsInPhase c h p m) e st in k ∙ sym (ap (machine_in c h) e)
 
-pub stands_after : (c : PlainCode) (t : ℕ) (h : Thread) → h.number ≡ t → (xs : List Exchange) (job : Job) (before : List (List Reply)) (m : Machine) → h.allowance ≡ allowance_of job → Stands_at c h m →
+pub stands_after : (c : PlainCode) (t : ℕ) (h : Thread) → h.number ≡ t → (xs : List Exchange) (job : Job) (before : List (List Reply)) (m : Machine) → h.allowance ≡ allowance_of job → StandsAtMachine c h m →
     Reached (code_engine c t) xs (Inside job before m) → StandsFor c h (xs ++ record { job = job; replies = before } ∷ [])
 stands_after c t h e xs job before m al st r = since xs job before m al (subst (λ t. Reached (code_engine c t) xs (Inside job before m)) (sym e) r) st
 
@@ -443,7 +443,7 @@ module _ (c : PlainCode) (valid : IsValidCode c) (h : Thread) (l : Loaded c h) (
       let make : List ℤ → List VarCopy → Machine = λ ns cs.
       On (record { steps = (block_of c h.number).steps; at = 0; stack = []; words = fresh_words ns (block_of c h.number).words; counters = replicate (block_of c h.number).counters 0 })
       [] (record { copies = cs; flags = replicate (block_of c h.number).flags false; live = replicate (length c.shape.threads) false }) 0 in
-      let m : machine_of c h' ≡ started c (block_of c h.number) args values = b.machine ∙ ap (λ ns. make ns p.copies) is.1 ∙ ap (make args) is.2 in
+      let m : machine_of c h' ≡ started_machine c (block_of c h.number) args values = b.machine ∙ ap (λ ns. make ns p.copies) is.1 ∙ ap (make args) is.2 in
       stands_after c h.number h' b.number xs (Start args values a) [] (machine_of c h') (b.allowance ∙ is.3) (at_running c h' false b.running) (begun xs (Start args values a) f.rest (machine_of c h') f.reached m)
   start_stands b k xs (Wake values a) is stands = let e = sym is.0 ∙ k in cc
 
@@ -452,7 +452,7 @@ module _ (c : PlainCode) (valid : IsValidCode c) (h : Thread) (l : Loaded c h) (
   wake_stands b asleep k xs (Wake values a) is stands =
       let f = finds c valid h l rests xs stands in
       let make : List VarCopy → Machine = λ cs. On (point_of (block_of c h.number) h.at h.stack) [] (record { copies = cs; flags = h.own.flags; live = h.own.live }) 0 in
-      let m : machine_of c h' ≡ woken values (machine_of c h) = b.machine ∙ ap make is.1 ∙ sym (ap (λ q. woken values (machine_in c h q)) asleep.phase) in
+      let m : machine_of c h' ≡ woken_machine values (machine_of c h) = b.machine ∙ ap make is.1 ∙ sym (ap (λ q. woken_machine values (machine_in c h q)) asleep.phase) in
       let rest = f.asleep asleep in
       stands_after c h.number h' b.number xs (Wake values a) [] (machine_of c h') (b.allowance ∙ is.2) (at_running c h' false b.running)
       (begun xs (Wake values a) (Asleep (machine_of c h)) (machine_of c h') (subst (λ r. Reached (code_engine c h.number) xs (AtRest r)) rest f.reached) m)
@@ -475,7 +475,7 @@ module _ (c : PlainCode) (t : ℕ) where
   stops_at (Trapping place trap) r h = tt
   stops_at Exceeding r h = tt
 
-  one_event : (a : ℕ) (m : Machine) (r r' : Event) → Tells e a m r → Tells e a m r' → r ≡ r'
+  one_event : (a : ℕ) (m : Machine) (r r' : Event) → HasEvent e a m r → HasEvent e a m r' → r ≡ r'
   one_event a m r r' (passes p) (passes q) = refl
   one_event a m r r' (passes p) (reaches s k h v) = absurd (not_both Machine e (code_steady c t) a m s h p)
   one_event a m r r' (reaches s k h v) (passes q) = absurd (not_both Machine e (code_steady c t) a m s h q)
@@ -483,23 +483,23 @@ module _ (c : PlainCode) (t : ℕ) where
       let same = one_stop Machine e (code_steady c t) a m s s' h h' in
       let k = sym v ∙ ap (λ x. event_of (view_of x)) same ∙ v' in cc
 
-tells_by : (c : PlainCode) (h h' : Thread) → Moved c h h' → (r : Event) → Shown c h' r → Tells (code_engine c h.number) h.allowance (machine_of c h) r
+tells_by : (c : PlainCode) (h h' : Thread) → Moved c h h' → (r : Event) → Shown c h' r → HasEvent (code_engine c h.number) h.allowance (machine_of c h) r
 tells_by c h h' m r (over past) =
-    passes (record { count = m.count; past = let u = ap units_of m.lands in omega (arith, past, m.allowance, u, units_are c h' m.loaded m.machine) })
+    passes (record { count = m.count; past = let u = ap machine_units m.lands in omega (arith, past, m.allowance, u, units_are c h' m.loaded m.machine) })
 tells_by c h h' m r (comes s le shown) =
     reaches (machine_of c h') s
     (record { count = m.count; lands = m.lands; stops = stops_at c h.number (view_of (machine_of c h')) s shown; within = omega (arith, le, m.allowance, units_are c h' m.loaded m.machine) })
     shown
 
-module _ (c : PlainCode) (h h' : Thread) (r : Event) (k : Comes_to c h h' r) (running : h.phase ≡ phase.Running false) where
-  pub tells_run : Tells (code_engine c h.number) h.allowance (machine_of c h) r
+module _ (c : PlainCode) (h h' : Thread) (r : Event) (k : ComesToEvent c h h' r) (running : h.phase ≡ phase.Running false) where
+  pub tells_run : HasEvent (code_engine c h.number) h.allowance (machine_of c h) r
   tells_run = tells_by c h h' k.moved r k.shown
 
-  pub tells_exactly : (m : Machine) (s : Event) → Stands_at c h m → Tells (code_engine c h.number) h.allowance m s ↔ (s ≡ r)
+  pub tells_exactly : (m : Machine) (s : Event) → StandsAtMachine c h m → HasEvent (code_engine c h.number) h.allowance m s ↔ (s ≡ r)
   tells_exactly m s st =
       let is : m ≡ machine_of c h = stands_running c h m running st in
-      subst (λ m. Tells (code_engine c h.number) h.allowance m s ↔ (s ≡ r)) (sym is)
-      (λ other. one_event c h.number h.allowance (machine_of c h) s r other tells_run, λ same. subst (Tells (code_engine c h.number) h.allowance (machine_of c h)) (sym same) tells_run)
+      subst (λ m. HasEvent (code_engine c h.number) h.allowance m s ↔ (s ≡ r)) (sym is)
+      (λ other. one_event c h.number h.allowance (machine_of c h) s r other tells_run, λ same. subst (HasEvent (code_engine c h.number) h.allowance (machine_of c h)) (sym same) tells_run)
 
   pub run_stands : (xs : List Exchange) → StandsFor c h xs → StandsFor c h' xs
   run_stands xs (never fresh) = let e = sym fresh ∙ running in cc
@@ -512,7 +512,7 @@ module _ (c : PlainCode) (h h' : Thread) (r : Event) (k : Comes_to c h h' r) (ru
 
 -- ---- how an event leaves the thread
 
-rests_over : (h : Thread) (p : Phase) → h.allowance < h.units → CanStop p → Rests_in h p
+rests_over : (h : Thread) (p : Phase) → h.allowance < h.units → CanStop p → RestsInPhase h p
 rests_over h phase.Fresh past k = tt
 rests_over h (phase.Running folding) past k = (past, k)
 rests_over h (phase.Forked before) past k = past
@@ -522,34 +522,34 @@ rests_over h phase.Ended past k = tt
 rests_over h (phase.Trapped place trap) past k = tt
 rests_over h phase.Over past k = tt
 
-left_in : (c : PlainCode) (h : Thread) (l : Loaded c h) (p : Phase) → h.phase ≡ p → Placed c l.needs h p → (r : Event) → h.units ≤ h.allowance → ((before : ℕ) → h.phase ≡ phase.Forked before → Says h.branches []) → event_of (view_of (machine_in c h p)) ≡ Some r → Left_by h r
+left_in : (c : PlainCode) (h : Thread) (l : Loaded c h) (p : Phase) → h.phase ≡ p → HoldsInPhase c l.needs h p → (r : Event) → h.units ≤ h.allowance → ((before : ℕ) → h.phase ≡ phase.Forked before → HoldsReplies h.branches []) → event_of (view_of (machine_in c h p)) ≡ Some r → LeftByEvent h r
 left_in c h l phase.Fresh e pl r le g v = cc
 left_in c h l (phase.Running folding) e pl r le g v = cc
 left_in c h l (phase.Forked before) e pl r le g v =
     let k : r ≡ event.Fork = let w = sym v ∙ ap event_of pl.view in cc in
-    subst (Left_by h) (sym k) (record { before = before; phase = e; within = le; count = ap length (g before e).ended })
+    subst (LeftByEvent h) (sym k) (record { before = before; phase = e; within = le; count = ap length (g before e).ended })
 left_in c h l phase.Joining e pl r le g v = cc
 left_in c h l phase.Paused e pl r le g v =
     let k : r ≡ event.Paused = cc in
-    subst (Left_by h) (sym k) (record { resting = subst (Rests_in h) (sym e) tt; started = λ f. let w = sym e ∙ f in cc }, record { phase = e; within = le })
+    subst (LeftByEvent h) (sym k) (record { resting = subst (RestsInPhase h) (sym e) tt; started = λ f. let w = sym e ∙ f in cc }, record { phase = e; within = le })
 left_in c h l phase.Ended e pl r le g v =
     let k : r ≡ event.Ended = cc in
-    subst (Left_by h) (sym k) (record { resting = subst (Rests_in h) (sym e) tt; started = λ f. let w = sym e ∙ f in cc })
+    subst (LeftByEvent h) (sym k) (record { resting = subst (RestsInPhase h) (sym e) tt; started = λ f. let w = sym e ∙ f in cc })
 left_in c h l (phase.Trapped place trap) e pl r le g v =
     let k : r ≡ event.Trapped place trap = cc in
-    subst (Left_by h) (sym k) (record { resting = subst (Rests_in h) (sym e) tt; started = λ f. let w = sym e ∙ f in cc })
+    subst (LeftByEvent h) (sym k) (record { resting = subst (RestsInPhase h) (sym e) tt; started = λ f. let w = sym e ∙ f in cc })
 left_in c h l phase.Over e pl r le g v = cc
 
-left_shown : (c : PlainCode) (h : Thread) (l : Loaded c h) → h.phase ≢ phase.Fresh → (r : Event) → CanStop h.phase → ((before : ℕ) → h.phase ≡ phase.Forked before → Says h.branches []) → Shown c h r → Left_by h r
+left_shown : (c : PlainCode) (h : Thread) (l : Loaded c h) → h.phase ≢ phase.Fresh → (r : Event) → CanStop h.phase → ((before : ℕ) → h.phase ≡ phase.Forked before → HoldsReplies h.branches []) → Shown c h r → LeftByEvent h r
 left_shown c h l started r stops quiet (over past) = record { resting = rests_over h h.phase past stops; started = started }
 left_shown c h l started r stops quiet (comes s le v) = left_in c h l h.phase refl l.placed r le quiet v
 
 -- a run begins within a job, so the thread was started
 not_fresh_after : (c : PlainCode) (h : Thread) → Loaded c h → (r : Event) → Shown c h r → h.phase ≢ phase.Fresh
-not_fresh_after c h l r (over past) fresh = let u = subst (Placed c l.needs h) fresh l.placed in absurd (omega (arith, past, u))
+not_fresh_after c h l r (over past) fresh = let u = subst (HoldsInPhase c l.needs h) fresh l.placed in absurd (omega (arith, past, u))
 not_fresh_after c h l r (comes s le v) fresh = let w = sym v ∙ ap (λ q. event_of (view_of (machine_in c h q))) fresh in cc
 
-pub run_left : (c : PlainCode) (h h' : Thread) (r : Event) → Comes_to c h h' r → Left_by h' r
+pub run_left : (c : PlainCode) (h h' : Thread) (r : Event) → ComesToEvent c h h' r → LeftByEvent h' r
 run_left c h h' r k = left_shown c h' k.moved.loaded (not_fresh_after c h' k.moved.loaded r k.shown) r k.stops k.none k.shown
 
 -- ---- a thread that was never started
@@ -561,7 +561,7 @@ read_uses (y ∷ ys) (suc t) x lt e = read_uses ys t x (omega arith) e
 
 -- ---- a thread that does not run on by itself
 
-pub can_run : (h : Thread) (p : Phase) → Runs_in h p → ((place : Place) (trap : Trap) → p ≡ phase.Trapped place trap → ⊥) → (p ≡ phase.Over → ⊥) → p ≡ phase.Running false
+pub can_run : (h : Thread) (p : Phase) → RunsInPhase h p → ((place : Place) (trap : Trap) → p ≡ phase.Trapped place trap → ⊥) → (p ≡ phase.Over → ⊥) → p ≡ phase.Running false
 can_run h phase.Fresh k a b = absurd k
 can_run h (phase.Running true) k a b = cc
 can_run h (phase.Running false) k a b = refl
@@ -572,32 +572,32 @@ can_run h phase.Ended k a b = absurd k
 can_run h (phase.Trapped place trap) k a b = absurd (a place trap refl)
 can_run h phase.Over k a b = absurd (b refl)
 
-module _ (c : PlainCode) (h : Thread) (m : Machine) (st : Stands_at c h m) where
-  over_tells : h.phase ≡ phase.Over → Tells (code_engine c h.number) h.allowance m event.Over
-  over_tells e = by (subst (λ p. Stands_in c h p m) e st)
+module _ (c : PlainCode) (h : Thread) (m : Machine) (st : StandsAtMachine c h m) where
+  over_tells : h.phase ≡ phase.Over → HasEvent (code_engine c h.number) h.allowance m event.Over
+  over_tells e = by (subst (λ p. StandsInPhase c h p m) e st)
     where
-      by : Exceeds h.allowance m → Tells (code_engine c h.number) h.allowance m event.Over
+      by : Exceeds h.allowance m → HasEvent (code_engine c h.number) h.allowance m event.Over
       by (inl past) = passes (record { count = 0; past = past })
       by (inr v) =
           ⊎_elim (λ past. passes (record { count = 0; past = past }))
           (λ le. reaches m event.Over (record { count = 0; lands = refl; stops = subst IsStopped (sym v) tt; within = le }) (ap event_of v))
-          (cases_lt h.allowance (units_of m))
+          (cases_lt h.allowance (machine_units m))
 
-  pub over_exactly : h.phase ≡ phase.Over → (s : Event) → Tells (code_engine c h.number) h.allowance m s ↔ (s ≡ event.Over)
-  over_exactly e s = (λ other. one_event c h.number h.allowance m s event.Over other (over_tells e), λ same. subst (Tells (code_engine c h.number) h.allowance m) (sym same) (over_tells e))
+  pub over_exactly : h.phase ≡ phase.Over → (s : Event) → HasEvent (code_engine c h.number) h.allowance m s ↔ (s ≡ event.Over)
+  over_exactly e s = (λ other. one_event c h.number h.allowance m s event.Over other (over_tells e), λ same. subst (HasEvent (code_engine c h.number) h.allowance m) (sym same) (over_tells e))
 
-  trap_tells : (place : Place) (trap : Trap) → h.phase ≡ phase.Trapped place trap → CanRun h → Tells (code_engine c h.number) h.allowance m (event.Trapped place trap)
+  trap_tells : (place : Place) (trap : Trap) → h.phase ≡ phase.Trapped place trap → CanRun h → HasEvent (code_engine c h.number) h.allowance m (event.Trapped place trap)
   trap_tells place trap e can =
-      let is : m ≡ Trapped place trap h.units = subst (λ p. Stands_in c h p m) e st in
-      let le : h.units ≤ h.allowance = subst (Runs_in h) e can in
-      subst (λ m. Tells (code_engine c h.number) h.allowance m (event.Trapped place trap)) (sym is)
+      let is : m ≡ Trapped place trap h.units = subst (λ p. StandsInPhase c h p m) e st in
+      let le : h.units ≤ h.allowance = subst (RunsInPhase h) e can in
+      subst (λ m. HasEvent (code_engine c h.number) h.allowance m (event.Trapped place trap)) (sym is)
       (reaches (Trapped place trap h.units) (event.Trapped place trap) (record { count = 0; lands = refl; stops = tt; within = le }) refl)
 
-  pub trap_exactly : (place : Place) (trap : Trap) → h.phase ≡ phase.Trapped place trap → CanRun h → (s : Event) → Tells (code_engine c h.number) h.allowance m s ↔ (s ≡ event.Trapped place trap)
-  trap_exactly place trap e can s = (λ other. one_event c h.number h.allowance m s (event.Trapped place trap) other (trap_tells place trap e can), λ same. subst (Tells (code_engine c h.number) h.allowance m) (sym same) (trap_tells place trap e can))
+  pub trap_exactly : (place : Place) (trap : Trap) → h.phase ≡ phase.Trapped place trap → CanRun h → (s : Event) → HasEvent (code_engine c h.number) h.allowance m s ↔ (s ≡ event.Trapped place trap)
+  trap_exactly place trap e can s = (λ other. one_event c h.number h.allowance m s (event.Trapped place trap) other (trap_tells place trap e can), λ same. subst (HasEvent (code_engine c h.number) h.allowance m) (sym same) (trap_tells place trap e can))
 
 pub trap_replies : (h : Thread) (place : Place) (trap : Trap) → h.phase ≡ phase.Trapped place trap → HasReply h
-trap_replies h place trap e = record { resting = subst (Rests_in h) (sym e) tt; started = λ f. let w = sym e ∙ f in cc }
+trap_replies h place trap e = record { resting = subst (RestsInPhase h) (sym e) tt; started = λ f. let w = sym e ∙ f in cc }
 
 pub over_replies : (h : Thread) → h.phase ≡ phase.Over → HasReply h
-over_replies h e = record { resting = subst (Rests_in h) (sym e) tt; started = λ f. let w = sym e ∙ f in cc }
+over_replies h e = record { resting = subst (RestsInPhase h) (sym e) tt; started = λ f. let w = sym e ∙ f in cc }

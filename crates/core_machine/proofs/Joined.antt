@@ -10,17 +10,17 @@ use Rattle.forec_kernel.specs.Packets.{PlainPacket}
 use Rattle.forec_kernel.specs.Packed.{IsReply}
 use Rattle.forec_kernel.specs.Reached.{Reached, Inside, joined, stepped}
 use Rattle.thread_code.specs.Plain.{PlainCode}
-use Rattle.thread_code.specs.Machine.{BranchCopy, Machine, Trapped, all_shares, shares_of, copies_in, join, uses_of, step}
+use Rattle.thread_code.specs.Machine.{BranchCopy, Machine, Trapped, all_shares, shares_of, copies_in, join, code_uses, step}
 use Rattle.thread_code.specs.Alone.{code_engine}
-use Rattle.core_machine.specs.Branches.{one_joined, trap_of, verdict_of, Says}
+use Rattle.core_machine.specs.Branches.{one_joined, leftmost_trap, verdict_of, HoldsReplies}
 use Rattle.core_machine.specs.declared.branches.Verdict.{Verdict}
 use Rattle.core_machine.specs.declared.branches.Verdict.TheVariants as verdict
 use Rattle.core_machine.specs.declared.thread.Thread.{Thread}
 use Rattle.core_machine.specs.declared.thread.Phase.TheVariants as phase
 use Rattle.core_machine.specs.Forks.{branch_at, with_replies}
-use Rattle.core_machine.specs.Held.{machine_in, machine_of, branch_of, Placed, Joins, Joins_by, Waits_at}
-use Rattle.core_machine.specs.Threads.{Loaded, HasSettled, HasJoined, Exceeds, Stands_in, Stands_at, Stands_by, StandsFor, never, since, settling, joining}
-use Rattle.core_machine.specs.Merging.{merging_with, Joining_on, Comes_by, Combined, StartsJoins, Prepared, Ends, Ends_by, Steps_on}
+use Rattle.core_machine.specs.Held.{machine_in, machine_of, branch_of, HoldsInPhase, Joins, JoinsByVerdict, WaitsAtFork}
+use Rattle.core_machine.specs.Threads.{Loaded, HasSettled, HasJoined, Exceeds, StandsInPhase, StandsAtMachine, StandsByVerdict, StandsFor, never, since, settling, joining}
+use Rattle.core_machine.specs.Merging.{merging_with, GoesOnJoining, ComesByVerdict, Combined, StartsJoins, Prepared, EndsJoin, EndsJoinByVerdict, StepsOn}
 use Rattle.core_machine.proofs.Asking.{waits, view_is, units_is}
 use Rattle.core_machine.proofs.Back.{not_over}
 use Rattle.thread_state.proofs.Lists.{drop_next, drop_past}
@@ -38,23 +38,23 @@ pub record Has_come (c : PlainCode) (h h1 : Thread) (rs : List Reply) (ys : List
   pub machine : Machine
   pub allowance : h.allowance ≡ allowance_of job
   pub reached : Reached (code_engine c h.number) before (Inside job (forks ++ rs ∷ []) machine)
-  pub stands : Stands_by c h1 rs h1.branches.verdict machine
+  pub stands : StandsByVerdict c h1 rs h1.branches.verdict machine
   pub same : at_fork before job (forks ++ rs ∷ []) ≡ ys
 
 module _ (c : PlainCode) (h : Thread) (l : Loaded c h) where
   module _ (at : HasSettled h (length h.branches.numbers)) (h1 : Thread) (s : StartsJoins c h h1) where
-    abbrev w0 : Waits_at c l.needs h at.before
+    abbrev w0 : WaitsAtFork c l.needs h at.before
     w0 = waits c h l at
 
     comes_first : (xs : List Exchange) (rs : List Reply) → length rs ≡ length h.branches.numbers → 0 < length rs → (zs : List Exchange) → zs ≡ with_replies xs rs → StandsFor c h zs → Has_come c h h1 rs zs
     comes_first xs rs n some zs e (never fresh) = let k = sym fresh ∙ at.phase in cc
     comes_first xs rs n some zs e (since ys job before m al reached st) =
-        let k = subst (λ p. Stands_in c h p m) at.phase st in
+        let k = subst (λ p. StandsInPhase c h p m) at.phase st in
         let z = ap length k.1.ended in
         absurd (omega (arith, z, at.count, n, some))
     comes_first xs rs n some zs e (settling ys job before rs' al reached w some' says) =
         let f = from_some xs ys job before rs rs' (long_some rs some) e in
-        let says' = subst (λ rs. Says h.branches rs) f.0 says in
+        let says' = subst (λ rs. HoldsReplies h.branches rs) f.0 says in
         let seeds : length rs ≡ length w0.seeds = let k = ap length w0.numbers in omega (arith, n, k, length-map w0.seeds branch_of) in
         let run = s.runs rs n says' in
         let there = joined ys job before rs w0.seeds (machine_of c h) reached (view_is c h l at) (omega (arith, units_is c h l at, at.within, al)) seeds in
@@ -72,7 +72,7 @@ module _ (c : PlainCode) (h : Thread) (l : Loaded c h) where
 
   comes_later : (k : ℕ) → HasJoined h (suc k) → (xs : List Exchange) (rs : List Reply) → 0 < length rs → (zs : List Exchange) → zs ≡ with_replies xs rs → StandsFor c h zs → Has_come c h h rs zs
   comes_later k at xs rs some zs e (never fresh) = let k = sym fresh ∙ at.0 in cc
-  comes_later k at xs rs some zs e (since ys job before m al reached st) = absurd (subst (λ p. Stands_in c h p m) at.0 st)
+  comes_later k at xs rs some zs e (since ys job before m al reached st) = absurd (subst (λ p. StandsInPhase c h p m) at.0 st)
   comes_later k at xs rs some zs e (settling ys job before rs' al reached w some' says) = let k = sym w.phase ∙ at.0 in cc
   comes_later k at xs rs some zs e (joining ys job before rs' m al reached p q st) =
       let f = from_some xs ys job before rs rs' (long_some rs some) e in
@@ -83,7 +83,7 @@ module _ (c : PlainCode) (h : Thread) (l : Loaded c h) where
         machine = m;
         allowance = al;
         reached = subst (λ rs. Reached (code_engine c h.number) ys (Inside job (before ++ rs ∷ []) m)) f.0 reached;
-        stands = subst (λ rs. Stands_by c h rs h.branches.verdict m) f.0 st;
+        stands = subst (λ rs. StandsByVerdict c h rs h.branches.verdict m) f.0 st;
         same = ap (λ r. at_fork ys job (before ++ r ∷ [])) (sym f.0);
       }
 
@@ -92,15 +92,15 @@ module _ (c : PlainCode) (h : Thread) (l : Loaded c h) where
   comes (suc k) at h1 p xs rs n lt stands = subst (λ h1. Has_come c h h1 rs (with_replies xs rs)) (sym p) (comes_later k at xs rs (omega (arith, lt)) (with_replies xs rs) refl stands)
 
   -- how it stands then
-  pub prepared_on : (k : ℕ) → HasJoined h k → (h1 : Thread) → Prepared c h h1 k → Joining_on c h h1 × (h1.branches.joined ≡ k)
+  pub prepared_on : (k : ℕ) → HasJoined h k → (h1 : Thread) → Prepared c h h1 k → GoesOnJoining c h h1 × (h1.branches.joined ≡ k)
   prepared_on zero at h1 p = let w = waits c h l at in (p.on, p.on.joined ∙ w.joined)
   prepared_on (suc k) at h1 p =
-      subst (λ h1. Joining_on c h h1 × (h1.branches.joined ≡ suc k)) (sym p)
+      subst (λ h1. GoesOnJoining c h h1 × (h1.branches.joined ≡ suc k)) (sym p)
       (record { loaded = l; phase = at.0; number = refl; allowance = refl; numbers = refl; joined = refl }, at.1)
 
 -- ---- a branch's copies
 
-copies_are : (p : PlainPacket) (r : Reply) → IsReply p r → trap_of (r ∷ []) ≡ verdict.Combine → is_over_reply r ≡ false → copies_in r ≡ p.copies
+copies_are : (p : PlainPacket) (r : Reply) → IsReply p r → leftmost_trap (r ∷ []) ≡ verdict.Combine → is_over_reply r ≡ false → copies_in r ≡ p.copies
 copies_are p (WasPaused copies u) is e o = sym is.1
 copies_are p (WasEnded copies u) is e o = sym is.1
 copies_are p (WasTrapped place trap u) is e o = cc
@@ -120,13 +120,13 @@ none_of (x ∷ rs) (suc k) r e o = by (is_over_reply x) o (none_of rs k r e)
     by true o more = cc
     by false o more = more o
 
-no_trap_of : (rs : List Reply) (k : ℕ) (r : Reply) → slice_get rs k ≡ Some r → trap_of rs ≡ verdict.Combine → trap_of (r ∷ []) ≡ verdict.Combine
+no_trap_of : (rs : List Reply) (k : ℕ) (r : Reply) → slice_get rs k ≡ Some r → leftmost_trap rs ≡ verdict.Combine → leftmost_trap (r ∷ []) ≡ verdict.Combine
 no_trap_of [] zero r e t = cc
 no_trap_of [] (suc k) r e t = cc
-no_trap_of (WasPaused copies u ∷ rs) zero r e t = let s : WasPaused copies u ≡ r = cc in ap (λ r. trap_of (r ∷ [])) (sym s)
-no_trap_of (WasEnded copies u ∷ rs) zero r e t = let s : WasEnded copies u ≡ r = cc in ap (λ r. trap_of (r ∷ [])) (sym s)
+no_trap_of (WasPaused copies u ∷ rs) zero r e t = let s : WasPaused copies u ≡ r = cc in ap (λ r. leftmost_trap (r ∷ [])) (sym s)
+no_trap_of (WasEnded copies u ∷ rs) zero r e t = let s : WasEnded copies u ≡ r = cc in ap (λ r. leftmost_trap (r ∷ [])) (sym s)
 no_trap_of (WasTrapped place trap u ∷ rs) zero r e t = cc
-no_trap_of (WasOver ∷ rs) zero r e t = let s : WasOver ≡ r = cc in ap (λ r. trap_of (r ∷ [])) (sym s)
+no_trap_of (WasOver ∷ rs) zero r e t = let s : WasOver ≡ r = cc in ap (λ r. leftmost_trap (r ∷ [])) (sym s)
 no_trap_of (WasPaused copies u ∷ rs) (suc k) r e t = no_trap_of rs k r e t
 no_trap_of (WasEnded copies u ∷ rs) (suc k) r e t = no_trap_of rs k r e t
 no_trap_of (WasTrapped place trap u ∷ rs) (suc k) r e t = cc
@@ -138,12 +138,12 @@ copies_of p rs k r e is v =
     copies_are p r is (no_trap_of rs k r e (sym n.1 ∙ v)) (none_of rs k r e n.0)
 
 shares_split : (c : PlainCode) (bs : List ℕ) (rs : List Reply) (k : ℕ) (r : Reply) → length rs ≡ length bs → slice_get rs k ≡ Some r →
-    all_shares c (drop k bs) (drop k rs) ≡ shares_of (uses_of c (get_or bs k 0)) (copies_in r) ++ all_shares c (drop (k + 1) bs) (drop (k + 1) rs)
+    all_shares c (drop k bs) (drop k rs) ≡ shares_of (code_uses c (get_or bs k 0)) (copies_in r) ++ all_shares c (drop (k + 1) bs) (drop (k + 1) rs)
 shares_split c bs rs k r n e =
     let lt = slice_get_within rs k r e in
     ap (λ l. all_shares c l (drop k rs)) (drop_next bs k 0 (omega (arith, lt, n)))
     ∙ ap (all_shares c (get_or bs k 0 ∷ drop (k + 1) bs)) (drop_next rs k r lt)
-    ∙ ap (λ x. shares_of (uses_of c (get_or bs k 0)) (copies_in x) ++ all_shares c (drop (k + 1) bs) (drop (k + 1) rs)) (got rs k r r e)
+    ∙ ap (λ x. shares_of (code_uses c (get_or bs k 0)) (copies_in x) ++ all_shares c (drop (k + 1) bs) (drop (k + 1) rs)) (got rs k r r e)
 
 -- ---- after the branch's copies
 
@@ -154,31 +154,31 @@ Stands_mid c h rs k (verdict.Trap place trap) m = m ≡ Trapped place trap h.uni
 Stands_mid c h rs k verdict.Over m = Exceeds h.allowance m
 
 module _ (c : PlainCode) (h1 h2 : Thread) (k : ℕ) (rs : List Reply) (r : Reply) (p : PlainPacket) (n : length rs ≡ length h1.branches.numbers) (e : slice_get rs k ≡ Some r) (is : IsReply p r) (j : h1.branches.joined ≡ k)
-    (on : h1.branches.verdict ≡ verdict.Combine → Combined c h1 h2 (shares_of (uses_of c (branch_at h1 k)) p.copies)) (stays : h1.branches.verdict ≢ verdict.Combine → h2 ≡ h1) where
+    (on : h1.branches.verdict ≡ verdict.Combine → Combined c h1 h2 (shares_of (code_uses c (branch_at h1 k)) p.copies)) (stays : h1.branches.verdict ≢ verdict.Combine → h2 ≡ h1) where
   Went_on : Machine → Type 0
   Went_on m = (q : ℕ) × Stands_mid c h2 rs (k + 1) h2.branches.verdict (run_for (step c h2.number) q m)
 
   rest : List BranchCopy
   rest = all_shares c (drop (k + 1) h1.branches.numbers) (drop (k + 1) rs)
 
-  combines_on : (m : Machine) → verdict_of rs ≡ verdict.Combine → m ≡ merging_with c h1 (all_shares c (drop h1.branches.joined h1.branches.numbers) (drop h1.branches.joined rs)) → Combined c h1 h2 (shares_of (uses_of c (branch_at h1 k)) p.copies) → Went_on m
+  combines_on : (m : Machine) → verdict_of rs ≡ verdict.Combine → m ≡ merging_with c h1 (all_shares c (drop h1.branches.joined h1.branches.numbers) (drop h1.branches.joined rs)) → Combined c h1 h2 (shares_of (code_uses c (branch_at h1 k)) p.copies) → Went_on m
   unfolding Went_on
   combines_on m v is_m x =
       let b = branch_at h1 k in
       let all = all_shares c (drop (k + 1) h1.branches.numbers) (drop (k + 1) rs) in
-      let here : m ≡ merging_with c h1 (shares_of (uses_of c b) p.copies ++ all) =
+      let here : m ≡ merging_with c h1 (shares_of (code_uses c b) p.copies ++ all) =
       is_m ∙ ap (λ j. merging_with c h1 (all_shares c (drop j h1.branches.numbers) (drop j rs))) j
       ∙ ap (merging_with c h1) (shares_split c h1.branches.numbers rs k r n e)
-      ∙ ap (λ cs. merging_with c h1 (shares_of (uses_of c b) cs ++ all)) (copies_of p rs k r e is v) in
+      ∙ ap (λ cs. merging_with c h1 (shares_of (code_uses c b) cs ++ all)) (copies_of p rs k r e is v) in
       subst (λ m. (q : ℕ) × Stands_mid c h2 rs (k + 1) h2.branches.verdict (run_for (step c h2.number) q m)) (sym here) (by h2.branches.verdict (x.runs all))
     where
-      by : (w : Verdict) → Comes_by c h2 (merging_with c h1 (shares_of (uses_of c (branch_at h1 k)) p.copies ++ all_shares c (drop (k + 1) h1.branches.numbers) (drop (k + 1) rs))) (all_shares c (drop (k + 1) h1.branches.numbers) (drop (k + 1) rs)) w →
-          (q : ℕ) × Stands_mid c h2 rs (k + 1) w (run_for (step c h2.number) q (merging_with c h1 (shares_of (uses_of c (branch_at h1 k)) p.copies ++ all_shares c (drop (k + 1) h1.branches.numbers) (drop (k + 1) rs))))
+      by : (w : Verdict) → ComesByVerdict c h2 (merging_with c h1 (shares_of (code_uses c (branch_at h1 k)) p.copies ++ all_shares c (drop (k + 1) h1.branches.numbers) (drop (k + 1) rs))) (all_shares c (drop (k + 1) h1.branches.numbers) (drop (k + 1) rs)) w →
+          (q : ℕ) × Stands_mid c h2 rs (k + 1) w (run_for (step c h2.number) q (merging_with c h1 (shares_of (code_uses c (branch_at h1 k)) p.copies ++ all_shares c (drop (k + 1) h1.branches.numbers) (drop (k + 1) rs))))
       by verdict.Combine q = (q.0, (v, q.1 ∙ ap (λ bs. merging_with c h2 (all_shares c (drop (k + 1) bs) (drop (k + 1) rs))) (sym x.on.numbers)))
       by (verdict.Trap place trap) q = q
       by verdict.Over q = q
 
-  stays_on : (w : Verdict) (m : Machine) → (w ≢ verdict.Combine) → Stands_by c h1 rs w m → (q : ℕ) × Stands_mid c h1 rs (k + 1) w (run_for (step c h1.number) q m)
+  stays_on : (w : Verdict) (m : Machine) → (w ≢ verdict.Combine) → StandsByVerdict c h1 rs w m → (q : ℕ) × Stands_mid c h1 rs (k + 1) w (run_for (step c h1.number) q m)
   stays_on verdict.Combine m no_more s = absurd (no_more refl)
   stays_on (verdict.Trap place trap) m no_more s = (0, s)
   stays_on verdict.Over m no_more s = (0, s)
@@ -189,41 +189,41 @@ module _ (c : PlainCode) (h1 h2 : Thread) (k : ℕ) (rs : List Reply) (r : Reply
   not_overs : verdict.Over ≢ verdict.Combine
   not_overs e = cc
 
-  stays_as : (m : Machine) → h1.branches.verdict ≢ verdict.Combine → Stands_by c h1 rs h1.branches.verdict m → Went_on m
+  stays_as : (m : Machine) → h1.branches.verdict ≢ verdict.Combine → StandsByVerdict c h1 rs h1.branches.verdict m → Went_on m
   unfolding Went_on
   stays_as m no_more s =
       subst (λ t. (q : ℕ) × Stands_mid c t rs (k + 1) t.branches.verdict (run_for (step c t.number) q m)) (sym (stays no_more)) (stays_on h1.branches.verdict m no_more s)
 
-  goes_by : (w : Verdict) → h1.branches.verdict ≡ w → (m : Machine) → Stands_by c h1 rs w m → Went_on m
+  goes_by : (w : Verdict) → h1.branches.verdict ≡ w → (m : Machine) → StandsByVerdict c h1 rs w m → Went_on m
   goes_by verdict.Combine q m s = combines_on m s.0 s.1 (on q)
-  goes_by (verdict.Trap place trap) q m s = stays_as m (λ z. not_trap place trap (sym q ∙ z)) (subst (λ w. Stands_by c h1 rs w m) (sym q) s)
-  goes_by verdict.Over q m s = stays_as m (λ z. not_overs (sym q ∙ z)) (subst (λ w. Stands_by c h1 rs w m) (sym q) s)
+  goes_by (verdict.Trap place trap) q m s = stays_as m (λ z. not_trap place trap (sym q ∙ z)) (subst (λ w. StandsByVerdict c h1 rs w m) (sym q) s)
+  goes_by verdict.Over q m s = stays_as m (λ z. not_overs (sym q ∙ z)) (subst (λ w. StandsByVerdict c h1 rs w m) (sym q) s)
 
-  pub went_on : (m : Machine) → Stands_by c h1 rs h1.branches.verdict m → (q : ℕ) × Stands_mid c h2 rs (k + 1) h2.branches.verdict (run_for (step c h2.number) q m)
+  pub went_on : (m : Machine) → StandsByVerdict c h1 rs h1.branches.verdict m → (q : ℕ) × Stands_mid c h2 rs (k + 1) h2.branches.verdict (run_for (step c h2.number) q m)
   unfolding Went_on
   went_on m s = goes_by h1.branches.verdict refl m s
 
-  pub on_after : Loaded c h1 → h1.phase ≡ phase.Joining → Joining_on c h1 h2
+  pub on_after : Loaded c h1 → h1.phase ≡ phase.Joining → GoesOnJoining c h1 h2
   on_after l q = by h1.branches.verdict refl
     where
-      same : h2 ≡ h1 → Joining_on c h1 h2
-      same z = subst (Joining_on c h1) (sym z) (record { loaded = l; phase = q; number = refl; allowance = refl; numbers = refl; joined = refl })
+      same : h2 ≡ h1 → GoesOnJoining c h1 h2
+      same z = subst (GoesOnJoining c h1) (sym z) (record { loaded = l; phase = q; number = refl; allowance = refl; numbers = refl; joined = refl })
 
-      by : (w : Verdict) → h1.branches.verdict ≡ w → Joining_on c h1 h2
+      by : (w : Verdict) → h1.branches.verdict ≡ w → GoesOnJoining c h1 h2
       by verdict.Combine z = (on z).on
       by (verdict.Trap place trap) z = same (stays (λ y. not_trap place trap (sym z ∙ y)))
       by verdict.Over z = same (stays (λ y. not_overs (sym z ∙ y)))
 
 -- ---- one more is joined
 
-module _ (c : PlainCode) (h2 h3 : Thread) (l : Loaded c h2) (q : h2.phase ≡ phase.Joining) (s : Steps_on c h2 h3) where
+module _ (c : PlainCode) (h2 h3 : Thread) (l : Loaded c h2) (q : h2.phase ≡ phase.Joining) (s : StepsOn c h2 h3) where
   abbrev one_more : Thread
   one_more = record { number = h2.number; phase = h2.phase; function = h2.function; at = h2.at; stack = h2.stack; own = h2.own; units = h2.units; allowance = h2.allowance; branches = one_joined h2.branches; joining = h2.joining }
 
   joins_now : Joins c l.needs h2
-  joins_now = subst (Placed c l.needs h2) q l.placed
+  joins_now = subst (HoldsInPhase c l.needs h2) q l.placed
 
-  one_state : (v : Verdict) → Joins_by c l.needs h2 v → Joins_by c l.needs one_more v
+  one_state : (v : Verdict) → JoinsByVerdict c l.needs h2 v → JoinsByVerdict c l.needs one_more v
   one_state verdict.Combine s = record { works = s.works; own = s.own; within = s.within; folds = λ v u. let f = s.folds v u in record { base = f.base; free = f.free }; rest = s.rest }
   one_state (verdict.Trap place trap) s = s
   one_state verdict.Over s = s
@@ -244,7 +244,7 @@ module _ (c : PlainCode) (h2 h3 : Thread) (l : Loaded c h2) (q : h2.phase ≡ ph
     space = l.space;
     small = l.small;
     units = l.units;
-    placed = subst (Placed c l.needs one_more) (sym q) (record { branches = joins_now.branches; some = lt; state = one_state h2.branches.verdict joins_now.state });
+    placed = subst (HoldsInPhase c l.needs one_more) (sym q) (record { branches = joins_now.branches; some = lt; state = one_state h2.branches.verdict joins_now.state });
   }
 
   last_or_next : (h2.branches.joined + 1 ≡ length h2.branches.numbers) ⊎ ((h2.branches.joined + 1 ≢ length h2.branches.numbers) × (h2.branches.joined + 1 < length h2.branches.numbers))
@@ -259,7 +259,7 @@ module _ (c : PlainCode) (h2 h3 : Thread) (l : Loaded c h2) (q : h2.phase ≡ ph
 
   module _ (ys : List Exchange) (job : Job) (forks : List (List Reply)) (rs : List Reply) (n : length rs ≡ length h2.branches.numbers) (al : h2.allowance ≡ allowance_of job) (m : Machine)
       (reached : Reached (code_engine c h2.number) ys (Inside job (forks ++ rs ∷ []) m)) (mid : Stands_mid c h2 rs (h2.branches.joined + 1) h2.branches.verdict m) where
-    by_next : (v : Verdict) → Stands_mid c h2 rs (h2.branches.joined + 1) v m → Stands_by c one_more rs v m
+    by_next : (v : Verdict) → Stands_mid c h2 rs (h2.branches.joined + 1) v m → StandsByVerdict c one_more rs v m
     by_next verdict.Combine s = s
     by_next (verdict.Trap place trap) s = s
     by_next verdict.Over s = s
@@ -271,22 +271,22 @@ module _ (c : PlainCode) (h2 h3 : Thread) (l : Loaded c h2) (q : h2.phase ≡ ph
       nothing_left : all_shares c (drop (h2.branches.joined + 1) h2.branches.numbers) (drop (h2.branches.joined + 1) rs) ≡ []
       nothing_left = ap (λ l. all_shares c l (drop (h2.branches.joined + 1) rs)) (drop_past h2.branches.numbers (h2.branches.joined + 1) (omega (arith, last)))
 
-      since_now : (m' : Machine) → Stands_at c h3 m' → Reached (code_engine c h2.number) ys (Inside job (forks ++ rs ∷ []) m') → Ends c h2 h3 → StandsFor c h3 (at_fork ys job (forks ++ rs ∷ []))
+      since_now : (m' : Machine) → StandsAtMachine c h3 m' → Reached (code_engine c h2.number) ys (Inside job (forks ++ rs ∷ []) m') → EndsJoin c h2 h3 → StandsFor c h3 (at_fork ys job (forks ++ rs ∷ []))
       since_now m' st r k = since ys job (forks ++ rs ∷ []) m' (k.allowance ∙ al) (subst (λ t. Reached (code_engine c t) ys (Inside job (forks ++ rs ∷ []) m')) (sym k.number) r) st
 
-      ends_by : (v : Verdict) → Stands_mid c h2 rs (h2.branches.joined + 1) v m → Ends_by c h2 h3 v → Ends c h2 h3 → StandsFor c h3 (at_fork ys job (forks ++ rs ∷ []))
+      ends_by : (v : Verdict) → Stands_mid c h2 rs (h2.branches.joined + 1) v m → EndsJoinByVerdict c h2 h3 v → EndsJoin c h2 h3 → StandsFor c h3 (at_fork ys job (forks ++ rs ∷ []))
       ends_by verdict.Combine s b k =
           let at_end : m ≡ merging_with c h2 [] = s.1 ∙ ap (merging_with c h2) nothing_left in
-          let st : Stands_at c h3 (machine_of c h3) = subst (λ p. Stands_in c h3 p (machine_in c h3 p)) (sym b.0) refl in
+          let st : StandsAtMachine c h3 (machine_of c h3) = subst (λ p. StandsInPhase c h3 p (machine_in c h3 p)) (sym b.0) refl in
           since_now (machine_of c h3) st (stepped ys job (forks ++ rs ∷ []) m (machine_of c h3) reached (ap (step c h2.number) at_end ∙ b.1)) k
       ends_by (verdict.Trap place trap) s b k =
           let e : m ≡ Trapped place trap h3.units = s ∙ ap (Trapped place trap) (sym b.1) in
-          since_now m (subst (λ p. Stands_in c h3 p m) (sym b.0) e) reached k
+          since_now m (subst (λ p. StandsInPhase c h3 p m) (sym b.0) e) reached k
       ends_by verdict.Over s b k =
           let e : Exceeds h3.allowance m = subst (λ a. Exceeds a m) (sym k.allowance) s in
-          since_now m (subst (λ p. Stands_in c h3 p m) (sym b) e) reached k
+          since_now m (subst (λ p. StandsInPhase c h3 p m) (sym b) e) reached k
 
-      last_stands : Ends c h2 h3 → StandsFor c h3 (at_fork ys job (forks ++ rs ∷ []))
+      last_stands : EndsJoin c h2 h3 → StandsFor c h3 (at_fork ys job (forks ++ rs ∷ []))
       last_stands k = ends_by h2.branches.verdict mid k.by k
 
     pub end_stands : StandsFor c h3 (at_fork ys job (forks ++ rs ∷ []))
@@ -295,7 +295,7 @@ module _ (c : PlainCode) (h2 h3 : Thread) (l : Loaded c h2) (q : h2.phase ≡ ph
 -- ---- the whole step
 
 pub joined_stands : (c : PlainCode) (h h1 h2 h3 : Thread) (l : Loaded c h) (k : ℕ) (at : HasJoined h k) (prepared : Prepared c h h1 k) (p : PlainPacket)
-    (on : h1.branches.verdict ≡ verdict.Combine → Combined c h1 h2 (shares_of (uses_of c (branch_at h1 k)) p.copies)) (stays : h1.branches.verdict ≢ verdict.Combine → h2 ≡ h1) (s : Steps_on c h2 h3)
+    (on : h1.branches.verdict ≡ verdict.Combine → Combined c h1 h2 (shares_of (code_uses c (branch_at h1 k)) p.copies)) (stays : h1.branches.verdict ≢ verdict.Combine → h2 ≡ h1) (s : StepsOn c h2 h3)
     (xs : List Exchange) (rs : List Reply) (r : Reply) → length rs ≡ length h.branches.numbers → slice_get rs k ≡ Some r → IsReply p r → StandsFor c h (with_replies xs rs) → StandsFor c h3 (with_replies xs rs)
 joined_stands c h h1 h2 h3 l k at prepared p on stays s xs rs r n e is stands =
     let o1 = prepared_on c h l k at h1 prepared in
@@ -312,16 +312,16 @@ joined_stands c h h1 h2 h3 l k at prepared p on stays s xs rs r n e is stands =
     (steps_on c h2.number come.before come.job (come.forks ++ rs ∷ []) went.0 come.machine reached) mid)
 
 pub joined_loaded : (c : PlainCode) (h h1 h2 h3 : Thread) (l : Loaded c h) (k : ℕ) (at : HasJoined h k) (prepared : Prepared c h h1 k) (shares : List BranchCopy)
-    (on : h1.branches.verdict ≡ verdict.Combine → Combined c h1 h2 shares) (stays : h1.branches.verdict ≢ verdict.Combine → h2 ≡ h1) (s : Steps_on c h2 h3) → Loaded c h3
+    (on : h1.branches.verdict ≡ verdict.Combine → Combined c h1 h2 shares) (stays : h1.branches.verdict ≢ verdict.Combine → h2 ≡ h1) (s : StepsOn c h2 h3) → Loaded c h3
 joined_loaded c h h1 h2 h3 l k at prepared shares on stays s =
     let o1 = prepared_on c h l k at h1 prepared in
     let o2 = by o1.0 h1.branches.verdict refl in
     end_loaded c h2 h3 o2.loaded o2.phase s
   where
-    same : Joining_on c h h1 → h2 ≡ h1 → Joining_on c h1 h2
-    same o z = subst (Joining_on c h1) (sym z) (record { loaded = o.loaded; phase = o.phase; number = refl; allowance = refl; numbers = refl; joined = refl })
+    same : GoesOnJoining c h h1 → h2 ≡ h1 → GoesOnJoining c h1 h2
+    same o z = subst (GoesOnJoining c h1) (sym z) (record { loaded = o.loaded; phase = o.phase; number = refl; allowance = refl; numbers = refl; joined = refl })
 
-    by : Joining_on c h h1 → (w : Verdict) → h1.branches.verdict ≡ w → Joining_on c h1 h2
+    by : GoesOnJoining c h h1 → (w : Verdict) → h1.branches.verdict ≡ w → GoesOnJoining c h1 h2
     by o verdict.Combine z = (on z).on
     by o (verdict.Trap place trap) z = same o (stays (λ y. let q = sym z ∙ y in cc))
     by o verdict.Over z = same o (stays (λ y. let q = sym z ∙ y in cc))

@@ -8,7 +8,7 @@ use Rattle.thread_code.specs.Plain.{PlainCode}
 use Rattle.thread_code.specs.Valid.{branches_in}
 use Rattle.thread_code.specs.Machine.{living}
 use Rattle.thread_code.specs.Alone.{block_of}
-use Rattle.thread_state.specs.Kept.{Kept}
+use Rattle.thread_state.specs.Kept.{PlainOwn}
 use Rattle.core_machine.specs.declared.thread.Thread.{Thread}
 use Rattle.core_machine.specs.Threads.{Loaded, HasSettled}
 use Rattle.core_machine.specs.Merging.{marked_live}
@@ -32,14 +32,14 @@ first_lives live b bs h = by (get_or live b false) refl h
     by false e h = let n = ap length h in absurd (omega (arith, n, few_living live bs))
 
 -- where none has ended, those that lived do so on
-pub living_on : (bs : List ℕ) (es : List Bool) (k : Kept) → list_all (λ e. not e) es ≡ true → living k.live bs ≡ bs → marked_live bs es k ≡ k
+pub living_on : (bs : List ℕ) (es : List Bool) (k : PlainOwn) → list_all (λ e. not e) es ≡ true → living k.live bs ≡ bs → marked_live bs es k ≡ k
 living_on [] es k none h = refl
 living_on (b ∷ bs) [] k none h = refl
 living_on (b ∷ bs) (true ∷ es) k none h = cc
 living_on (b ∷ bs) (false ∷ es) k none h =
     let l = first_lives k.live b bs h in
     let set : slice_set k.live b true ≡ k.live = ap (slice_set k.live b) (sym l.0) ∙ set-get_or k.live b false in
-    let make : List Bool → Kept = λ live. record { copies = k.copies; places = k.places; flags = k.flags; live = live; pars = k.pars } in
+    let make : List Bool → PlainOwn = λ live. record { copies = k.copies; places = k.places; flags = k.flags; live = live; pars = k.pars } in
     ap (λ live. marked_live bs es (make live)) set ∙ living_on bs es k none l.1
 
 pub held_live : (c : PlainCode) (h : Thread) (l : Loaded c h) {n : ℕ} (at : HasSettled h n) → h.branches.fork.again ≡ true → living h.own.live h.branches.numbers ≡ h.branches.numbers

@@ -10,19 +10,19 @@ use Rattle.forec_kernel.specs.Values.{copy_of}
 use Rattle.forec_kernel.specs.Combining.{contains, takes_part, variable_of}
 use Rattle.thread_code.specs.Plain.{PlainCode}
 use Rattle.thread_code.specs.Valid.{of_shape}
-use Rattle.thread_code.specs.Machine.{Point, Frame, Folding as Folds_to, BranchCopy, Total, Merge, Merges, no_total, total_of, put_total, totalled, noted, folded as folded_in, offered as offered_in, entered, returned, step, uses_of}
+use Rattle.thread_code.specs.Machine.{Point, Frame, Folding as Folds_to, BranchCopy, Total, Merge, Merges, no_total, total_of, put_total, totalled, noted, folded as folded_in, offered as offered_in, entered, returned, step, code_uses}
 use Rattle.thread_code.specs.Alone.{block_of}
 use Rattle.combine_tree.specs.declared.joining.Fold.{Fold}
-use Rattle.combine_tree.specs.Joins.{begun, fold_at, pair_of, with_value, with_mark, offered, folded}
+use Rattle.combine_tree.specs.Joins.{begun, fold_at, pair_of, with_value, with_mark, offered_copy, fold_value}
 use Rattle.thread_state.specs.Kept.{own_of, place_of, place_in, no_copy}
 use Rattle.thread_steps.specs.BlockRun.{point_of}
 use Rattle.core_machine.specs.declared.branches.Verdict.{Verdict}
 use Rattle.core_machine.specs.declared.branches.Verdict.TheVariants as verdict
 use Rattle.core_machine.specs.declared.thread.Thread.{Thread}
 use Rattle.core_machine.specs.declared.thread.Phase.TheVariants as phase
-use Rattle.core_machine.specs.Held.{IsNarrow, Placed, Joins, Joins_by, Combines, FoldsFit, some_use, total_in, totals_in}
+use Rattle.core_machine.specs.Held.{IsNarrow, HoldsInPhase, Joins, JoinsByVerdict, Combines, FoldsFit, some_use, total_in, totals_in}
 use Rattle.core_machine.specs.Threads.{Loaded, Exceeds}
-use Rattle.core_machine.specs.Merging.{merging_with, calling, with_units, Joining_on, FoldFails_by, FoldFails, Valued, Comes_by, Combined}
+use Rattle.core_machine.specs.Merging.{merging_with, calling_machine, with_units, GoesOnJoining, FoldFailsByVerdict, FoldFails, Valued, ComesByVerdict, Combined}
 use Rattle.thread_steps.proofs.Advance.{run_add}
 use Rattle.thread_state.proofs.Indexed.{equal_of, differs_of, place_within, found_at}
 use Rattle.core_machine.proofs.Seeds.{place_is}
@@ -68,9 +68,9 @@ set_twice (x ∷ xs) (suc i) a b = ap (λ l. x ∷ l) (set_twice xs i a b)
 
 -- ---- an offer
 
-module _ (c : PlainCode) (h : Thread) (l : Loaded c h) (joining : h.phase ≡ phase.Joining) (going : h.branches.verdict ≡ verdict.Combine) (v : ℕ) (copy : VarCopy) (used : IsTrue (contains v (uses_of c h.number))) (some : some_use c h.branches.numbers v ≡ true) where
+module _ (c : PlainCode) (h : Thread) (l : Loaded c h) (joining : h.phase ≡ phase.Joining) (going : h.branches.verdict ≡ verdict.Combine) (v : ℕ) (copy : VarCopy) (used : IsTrue (contains v (code_uses c h.number))) (some : some_use c h.branches.numbers v ≡ true) where
   abbrev uses : List ℕ
-  uses = uses_of c h.number
+  uses = code_uses c h.number
 
   abbrev p : ℕ
   p = place_of uses v
@@ -82,10 +82,10 @@ module _ (c : PlainCode) (h : Thread) (l : Loaded c h) (joining : h.phase ≡ ph
   x = variable_of (of_shape c.shape) v
 
   pub joins : Joins c l.needs h
-  joins = subst (Placed c l.needs h) joining l.placed
+  joins = subst (HoldsInPhase c l.needs h) joining l.placed
 
   pub state : Combines c l.needs h
-  state = subst (Joins_by c l.needs h) going joins.state
+  state = subst (JoinsByVerdict c l.needs h) going joins.state
 
   fit : FoldsFit c h v
   fit = state.folds v some
@@ -128,7 +128,7 @@ module _ (c : PlainCode) (h : Thread) (l : Loaded c h) (joining : h.phase ≡ ph
       let y = sym none ∙ q in cc)
       ∙ state.rest narrow i (omega (arith, lt, length-set h.joining p f)) none
 
-  pub on_after : (u : ℕ) (f : Fold) → u ≤ h.allowance → f.base ≡ F.base → f.waits ≡ false → Joining_on c h (after u f)
+  pub on_after : (u : ℕ) (f : Fold) → u ≤ h.allowance → f.base ≡ F.base → f.waits ≡ false → GoesOnJoining c h (after u f)
   on_after u f le b q = record {
     loaded = record {
       thread = l.thread;
@@ -145,11 +145,11 @@ module _ (c : PlainCode) (h : Thread) (l : Loaded c h) (joining : h.phase ≡ ph
       space = l.space;
       small = l.small;
       units = omega (arith, le);
-      placed = subst (Placed c l.needs (after u f)) (sym joining)
+      placed = subst (HoldsInPhase c l.needs (after u f)) (sym joining)
           (record {
             branches = joins.branches;
             some = joins.some;
-            state = subst (Joins_by c l.needs (after u f)) (sym going)
+            state = subst (JoinsByVerdict c l.needs (after u f)) (sym going)
                 (record {
                   works = record {
                     at = record {
@@ -246,7 +246,7 @@ module _ (c : PlainCode) (h : Thread) (l : Loaded c h) (joining : h.phase ≡ ph
   comes_one : (f : Fold) → f.base ≡ F.base → f.waits ≡ false → ((rest : List BranchCopy) → step c h.number (merging_with c h (share ∷ rest)) ≡ Merges (merge rest (totals f)) (own_of h.own) h.units) → Combined c h (after h.units f) (share ∷ [])
   comes_one f b q s = record {
     on = on_after h.units f state.within b q;
-    runs = λ rest. subst (Comes_by c (after h.units f) (merging_with c h (share ∷ rest)) rest) (sym going) (1, s rest);
+    runs = λ rest. subst (ComesByVerdict c (after h.units f) (merging_with c h (share ∷ rest)) rest) (sym going) (1, s rest);
   }
 
   -- ---- no pair
@@ -263,7 +263,7 @@ module _ (c : PlainCode) (h : Thread) (l : Loaded c h) (joining : h.phase ≡ ph
       first_in None rest f = ap (λ m. Merges m (own_of h.own) h.units) (totalled_is rest copy.value (record M { total = Some copy.value }) refl)
       first_in (Some g) rest f = ap (λ m. Merges m (own_of h.own) h.units) (totalled_is rest copy.value (record M { total = Some copy.value }) refl)
 
-  pub no_pair : pair_of x.policy copy F ≡ None → Combined c h (after h.units (offered x.policy copy F)) (share ∷ [])
+  pub no_pair : pair_of x.policy copy F ≡ None → Combined c h (after h.units (offered_copy x.policy copy F)) (share ∷ [])
   no_pair e =
       let f = no_pair_in (takes_part x.policy F.base.value copy) F.total refl refl e in f
 
@@ -301,7 +301,7 @@ module _ (c : PlainCode) (h : Thread) (l : Loaded c h) (joining : h.phase ≡ ph
     abbrev W : Fold
     W = record M { waits = true }
 
-    pub offered_waits : offered x.policy copy F ≡ W
+    pub offered_waits : offered_copy x.policy copy F ≡ W
     offered_waits = ap (λ t. cond t (with_value copy.value M F.total) M) paired.part ∙ ap (with_value copy.value M) paired.total
 
     to_fold : (rest : List BranchCopy) → step c h.number (merging_with c h (share ∷ rest)) ≡ folded_in c h.number share (merge rest (totals M)) (own_of h.own) h.units x.combine (Some n)
@@ -311,46 +311,46 @@ module _ (c : PlainCode) (h : Thread) (l : Loaded c h) (joining : h.phase ≡ ph
     abbrev called : Thread
     called = after h.units W
 
-    calls : (f : ℕ) → x.combine ≡ Some f → (rest : List BranchCopy) → step c h.number (merging_with c h (share ∷ rest)) ≡ calling c called f n right (Folds_to v (merge rest (totals M)))
+    calls : (f : ℕ) → x.combine ≡ Some f → (rest : List BranchCopy) → step c h.number (merging_with c h (share ∷ rest)) ≡ calling_machine c called f n right (Folds_to v (merge rest (totals M)))
     calls f e rest =
         to_fold rest ∙ ap (λ o. folded_in c h.number share (merge rest (totals M)) (own_of h.own) h.units o (Some n)) e
         ∙ ap (λ r. entered (slice_get c.functions f) (n ∷ r ∷ []) (Folds_to v (merge rest (totals M)) ∷ []) (own_of h.own) h.units) (sym paired.value)
 
     ends_with : ℕ → ℤ → Thread
-    ends_with u m = after u (folded m W)
+    ends_with u m = after u (fold_value m W)
 
     -- the first value stays
-    pub stays : x.combine ≡ None → Combined c h (after h.units (folded n W)) (share ∷ [])
-    stays e = comes_one (folded n W) refl refl (λ rest.
+    pub stays : x.combine ≡ None → Combined c h (after h.units (fold_value n W)) (share ∷ [])
+    stays e = comes_one (fold_value n W) refl refl (λ rest.
         to_fold rest ∙ ap (λ o. folded_in c h.number share (merge rest (totals M)) (own_of h.own) h.units o (Some n)) e
-        ∙ ap (λ ts. Merges (merge rest ts) (own_of h.own) h.units) (same_totals M (folded n W) (ap (λ o. record { value = o; marked = M.marked }) paired.total)))
+        ∙ ap (λ ts. Merges (merge rest ts) (own_of h.own) h.units) (same_totals M (fold_value n W) (ap (λ o. record { value = o; marked = M.marked }) paired.total)))
 
     -- the function's number is folded in
     pub folds_number : (f : ℕ) → x.combine ≡ Some f → (u : ℕ) (m : ℤ) → u ≤ h.allowance →
-        ((G : Frame) → (k : ℕ) × (run_for (step c h.number) k (calling c called f n right G) ≡ returned c h.number m (G ∷ []) (own_of h.own) u)) →
-        Combined c h (after u (folded m W)) (share ∷ [])
+        ((G : Frame) → (k : ℕ) × (run_for (step c h.number) k (calling_machine c called f n right G) ≡ returned c h.number m (G ∷ []) (own_of h.own) u)) →
+        Combined c h (after u (fold_value m W)) (share ∷ [])
     folds_number f e u m le over = record {
-      on = on_after u (folded m W) le refl refl;
+      on = on_after u (fold_value m W) le refl refl;
       runs = λ rest.
           let G : Frame = Folds_to v (merge rest (totals M)) in
           let o = over G in
-          let ends : run_for (step c h.number) (1 + o.0) (merging_with c h (share ∷ rest)) ≡ merging_with c (after u (folded m W)) rest =
+          let ends : run_for (step c h.number) (1 + o.0) (merging_with c h (share ∷ rest)) ≡ merging_with c (after u (fold_value m W)) rest =
           run_add (step c h.number) 1 o.0 (merging_with c h (share ∷ rest)) ∙ ap (run_for (step c h.number) o.0) (calls f e rest) ∙ o.1
-          ∙ ap (λ q. Merges q (own_of h.own) u) (totalled_is rest m (folded m W) refl) in
-          subst (Comes_by c (after u (folded m W)) (merging_with c h (share ∷ rest)) rest) (sym going) (1 + o.0, ends);
+          ∙ ap (λ q. Merges q (own_of h.own) u) (totalled_is rest m (fold_value m W) refl) in
+          subst (ComesByVerdict c (after u (fold_value m W)) (merging_with c h (share ∷ rest)) rest) (sym going) (1 + o.0, ends);
     }
 
     -- or it fails
-    fails_one : (h' : Thread) → h'.number ≡ h.number → (f : ℕ) → x.combine ≡ Some f → (rest : List BranchCopy) (w : Verdict) → FoldFails_by c h' (calling c called f n right (Folds_to v (merge rest (totals M)))) w → Comes_by c h' (merging_with c h (share ∷ rest)) rest w
+    fails_one : (h' : Thread) → h'.number ≡ h.number → (f : ℕ) → x.combine ≡ Some f → (rest : List BranchCopy) (w : Verdict) → FoldFailsByVerdict c h' (calling_machine c called f n right (Folds_to v (merge rest (totals M)))) w → ComesByVerdict c h' (merging_with c h (share ∷ rest)) rest w
     fails_one h' t f e rest verdict.Combine k = absurd k
     fails_one h' t f e rest (verdict.Trap place trap) k =
-        let s = subst (λ t. step c t (merging_with c h (share ∷ rest)) ≡ calling c called f n right (Folds_to v (merge rest (totals M)))) (sym t) (calls f e rest) in
+        let s = subst (λ t. step c t (merging_with c h (share ∷ rest)) ≡ calling_machine c called f n right (Folds_to v (merge rest (totals M)))) (sym t) (calls f e rest) in
         (1 + k.0, run_add (step c h'.number) 1 k.0 (merging_with c h (share ∷ rest)) ∙ ap (run_for (step c h'.number) k.0) s ∙ k.1)
     fails_one h' t f e rest verdict.Over k =
-        let s = subst (λ t. step c t (merging_with c h (share ∷ rest)) ≡ calling c called f n right (Folds_to v (merge rest (totals M)))) (sym t) (calls f e rest) in
+        let s = subst (λ t. step c t (merging_with c h (share ∷ rest)) ≡ calling_machine c called f n right (Folds_to v (merge rest (totals M)))) (sym t) (calls f e rest) in
         (1 + k.0, subst (Exceeds h'.allowance) (sym (run_add (step c h'.number) 1 k.0 (merging_with c h (share ∷ rest)) ∙ ap (run_for (step c h'.number) k.0) s)) k.1)
 
-    pub fails_offer : (h' : Thread) (f : ℕ) → x.combine ≡ Some f → FoldFails c called h' (calling c called f n right) → Combined c h h' (share ∷ [])
+    pub fails_offer : (h' : Thread) (f : ℕ) → x.combine ≡ Some f → FoldFails c called h' (calling_machine c called f n right) → Combined c h h' (share ∷ [])
     fails_offer h' f e k = record {
       on = record { loaded = k.on.loaded; phase = k.on.phase; number = k.on.number; allowance = k.on.allowance; numbers = k.on.numbers; joined = k.on.joined };
       runs = λ rest. fails_one h' k.on.number f e rest h'.branches.verdict (k.runs (Folds_to v (merge rest (totals M))));
@@ -374,14 +374,14 @@ module _ (c : PlainCode) (h : Thread) (l : Loaded c h) (joining : h.phase ≡ ph
     abbrev with_joining : Thread → List Fold → Thread
     with_joining t js = record { number = t.number; phase = t.phase; function = t.function; at = t.at; stack = t.stack; own = t.own; units = t.units; allowance = t.allowance; branches = t.branches; joining = js }
 
-    joining_is : (h' : Thread) (combine : Option ℕ) (m : ℤ) → Valued c called h' combine n right (Some m) → (js : List Fold) → js ≡ slice_set h'.joining p (folded m (fold_at h'.joining p)) → js ≡ slice_set h.joining p (folded m W)
+    joining_is : (h' : Thread) (combine : Option ℕ) (m : ℤ) → Valued c called h' combine n right (Some m) → (js : List Fold) → js ≡ slice_set h'.joining p (fold_value m (fold_at h'.joining p)) → js ≡ slice_set h.joining p (fold_value m W)
     joining_is h' combine m k js e =
-        e ∙ ap (λ js. slice_set js p (folded m (fold_at js p))) (same_joining h' combine m k) ∙ ap (λ f. slice_set (slice_set h.joining p W) p (folded m f)) W_at ∙ set_twice h.joining p W (folded m W)
+        e ∙ ap (λ js. slice_set js p (fold_value m (fold_at js p))) (same_joining h' combine m k) ∙ ap (λ f. slice_set (slice_set h.joining p W) p (fold_value m f)) W_at ∙ set_twice h.joining p W (fold_value m W)
 
-    pub pair_ends : (h' : Thread) (combine : Option ℕ) (m : ℤ) → x.combine ≡ combine → Valued c called h' combine n right (Some m) → (js : List Fold) → js ≡ slice_set h'.joining p (folded m (fold_at h'.joining p)) → Combined c h (with_joining h' js) (share ∷ [])
+    pub pair_ends : (h' : Thread) (combine : Option ℕ) (m : ℤ) → x.combine ≡ combine → Valued c called h' combine n right (Some m) → (js : List Fold) → js ≡ slice_set h'.joining p (fold_value m (fold_at h'.joining p)) → Combined c h (with_joining h' js) (share ∷ [])
     pair_ends h' None m e k js is =
         let q = some_same m n k.1 in
-        let j = joining_is h' None m k js is ∙ ap (λ m. slice_set h.joining p (folded m W)) q in
+        let j = joining_is h' None m k js is ∙ ap (λ m. slice_set h.joining p (fold_value m W)) q in
         subst (λ t. Combined c h (with_joining t js) (share ∷ [])) (sym k.0) (subst (λ js. Combined c h (with_joining called js) (share ∷ [])) (sym j) (stays e))
     pair_ends h' (Some f) m e k js is =
         let j = joining_is h' (Some f) m k js is in

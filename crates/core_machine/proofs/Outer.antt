@@ -8,19 +8,19 @@ use Rattle.thread_code.specs.declared.instruction.Instruction.{Instruction}
 use Rattle.thread_code.specs.declared.instruction.Instruction.TheVariants as instruction
 use Rattle.thread_code.specs.Plain.{PlainCode}
 use Rattle.thread_code.specs.Valid.{cost, IsParOf, IsValidCode, branches_in, arguments_of}
-use Rattle.thread_code.specs.Machine.{Point, Own, Awaited, Machine, Waits, Paused, with_arguments, awaited, starts, wakes, waking, living, uses_of, act, step}
-use Rattle.thread_code.specs.Alone.{block_of, view_of, units_of}
-use Rattle.thread_state.specs.Frames.{arguments, without}
-use Rattle.thread_state.specs.Kept.{Kept, own_of}
-use Rattle.thread_steps.specs.BlockRun.{block_for, owner, Comes, next, Work, work, point_of, machine_at, IsAt, Stands_before, Forks, Shows, Runs}
+use Rattle.thread_code.specs.Machine.{Point, Own, Awaited, Machine, Waits, Paused, with_arguments, awaited, starts, wakes, waking, living, code_uses, act, step}
+use Rattle.thread_code.specs.Alone.{block_of, view_of, machine_units}
+use Rattle.thread_state.specs.Frames.{topmost_arguments, without}
+use Rattle.thread_state.specs.Kept.{PlainOwn, own_of}
+use Rattle.thread_steps.specs.BlockRun.{block_for, owner, Comes, next, Work, work, point_of, machine_at, IsAt, StandsBefore, Forks, Shows, Runs}
 use Rattle.thread_steps.specs.declared.block_run.Stop.{Stop}
 use Rattle.thread_steps.specs.declared.block_run.Stop.TheVariants as stop
 use Rattle.core_machine.specs.declared.thread.Thread.{Thread}
 use Rattle.core_machine.specs.declared.thread.Phase.TheVariants as phase
 use Rattle.core_machine.specs.declared.thread.Event.TheVariants as event
-use Rattle.core_machine.specs.Held.{work_of, callers, machine_in, machine_of, branch_of, Chained, Below, Works, Placed}
+use Rattle.core_machine.specs.Held.{work_of, callers, machine_in, machine_of, branch_of, HasCallDepth, Below, Works, HoldsInPhase}
 use Rattle.core_machine.specs.Threads.{Loaded, event_of}
-use Rattle.core_machine.specs.RunParts.{callers_over, Has_machine, Moved, RunsBlock}
+use Rattle.core_machine.specs.RunParts.{callers_over, HasMachine, Moved, RunsBlock}
 use Rattle.core_machine.specs.Room.{EnoughToCombine}
 use Rattle.core_machine.specs.Branches.{instruction_of, chosen, with_branches}
 use Rattle.core_machine.specs.declared.fork.ForkAt.{ForkAt}
@@ -34,7 +34,7 @@ pub empty_of : {A : Type 0} → (xs : List A) → length xs ≡ 0 → xs ≡ []
 empty_of [] h = refl
 empty_of (x ∷ xs) h = absurd (omega arith)
 
-pub args_act : (n : ℕ) (stack args : List ℤ) (u : ℕ) (go : List ℤ → List ℤ → Machine) → n ≤ length stack → with_arguments n stack args u go ≡ go (arguments n stack args) (without n stack)
+pub args_act : (n : ℕ) (stack args : List ℤ) (u : ℕ) (go : List ℤ → List ℤ → Machine) → n ≤ length stack → with_arguments n stack args u go ≡ go (topmost_arguments n stack args) (without n stack)
 args_act zero stack args u go le = refl
 args_act (suc n) [] args u go le = absurd (omega arith)
 args_act (suc n) (x ∷ rest) args u go le = args_act n rest (x ∷ args) u go (omega arith)
@@ -50,11 +50,11 @@ is_owned t (Some f) n h = cc
 
 -- ---- the instructions at which branches wait
 
-pub data Fork_kind (c : PlainCode) (k : Kept) (i : Instruction) : Type 0 where
+pub data Fork_kind (c : PlainCode) (k : PlainOwn) (i : Instruction) : Type 0 where
   is_fork : (j to : ℕ) → i ≡ instruction.Fork j to → Fork_kind c k i
   is_again : (j to : ℕ) → living k.live (branches_in c.shape j) ≢ [] → i ≡ instruction.Again j to → Fork_kind c k i
 
-module _ (c : PlainCode) (k : Kept) where
+module _ (c : PlainCode) (k : PlainOwn) where
   pub fork_kind : (i : Instruction) → Forks c i k → Fork_kind c k i
   fork_kind (instruction.Push n) h = absurd h
   fork_kind (instruction.Quiet n) h = absurd h
@@ -107,9 +107,9 @@ module _ (c : PlainCode) (t : ℕ) (a : ℕ) (w : Work) (at : IsAt c t None w) (
       let bs = branches_in c.shape par in
       let go : List ℤ → List ℤ → Machine = λ args rest. Waits (awaited bs (starts c t w.kept.copies bs args) p to rest) (own_of w.kept) (w.units + 1) in
       record {
-        for = awaited bs (starts c t w.kept.copies bs (arguments (arguments_of c.shape bs) w.frames.stack [])) p to (without (arguments_of c.shape bs) w.frames.stack);
+        for = awaited bs (starts c t w.kept.copies bs (topmost_arguments (arguments_of c.shape bs) w.frames.stack [])) p to (without (arguments_of c.shape bs) w.frames.stack);
         steps = args_act (arguments_of c.shape bs) w.frames.stack [] w.units go f.1;
-        names = starts_name c t w.kept.copies bs (arguments (arguments_of c.shape bs) w.frames.stack []);
+        names = starts_name c t w.kept.copies bs (topmost_arguments (arguments_of c.shape bs) w.frames.stack []);
       }
   waits_by par to true is some =
       let h = wakes_named c t (living w.kept.live (branches_in c.shape par)) (some refl) to (point_of (block_of c t) w.at w.frames) (own_of w.kept) w.units in
@@ -121,7 +121,7 @@ module _ (c : PlainCode) (t : ℕ) (a : ℕ) (w : Work) (at : IsAt c t None w) (
   par_by par to false is = (fine c t None a w at within (instruction.Fork par to) is).0
   par_by par to true is = (fine c t None a w at within (instruction.Again par to) is).0
 
-some_by : (c : PlainCode) (k : Kept) (par to : ℕ) (again : Bool) → Forks c (cond again (instruction.Again par to) (instruction.Fork par to)) k → again ≡ true → living k.live (branches_in c.shape par) ≢ []
+some_by : (c : PlainCode) (k : PlainOwn) (par to : ℕ) (again : Bool) → Forks c (cond again (instruction.Again par to) (instruction.Fork par to)) k → again ≡ true → living k.live (branches_in c.shape par) ≢ []
 some_by c k par to true h e = h
 some_by c k par to false h e = cc
 
@@ -161,7 +161,7 @@ works_at folding c t needs g w r q here = record {
 
 module _ (folding : Bool) (c : PlainCode) (h : Thread) (l : Loaded c h) (run : h.phase ≡ phase.Running folding) where
   pub works : Works folding c h.number l.needs h.function (work_of h)
-  works = subst (Placed c l.needs h) run l.placed
+  works = subst (HoldsInPhase c l.needs h) run l.placed
 
   pub machine_runs : machine_of c h ≡ machine_at (block_for c h.number h.function) (callers c h.number h.stack.below) (work_of h)
   machine_runs = ap (machine_in c h) run
@@ -185,7 +185,7 @@ module _ (folding : Bool) (c : PlainCode) (h : Thread) (l : Loaded c h) (run : h
       need = works.need;
       enough = works.enough;
       fits = omega (arith, works.fits, r.keeps.room);
-      chained = subst (λ ws. Chained c h.function (length ws)) (sym r.keeps.below) works.chained;
+      chained = subst (λ ws. HasCallDepth c h.function (length ws)) (sym r.keeps.below) works.chained;
       inside = works.inside;
       below = still_below;
     }
@@ -202,20 +202,20 @@ module _ (folding : Bool) (c : PlainCode) (h : Thread) (l : Loaded c h) (run : h
           own = l.own;
           room = omega (arith, l.room, r.keeps.room);
           most = omega (arith, l.most, r.keeps.most);
-          combines = subst (EnoughToCombine c (block_of c h.number) (uses_of c h.number) l.needs) (sym r.keeps.room) l.combines;
+          combines = subst (EnoughToCombine c (block_of c h.number) (code_uses c h.number) l.needs) (sym r.keeps.room) l.combines;
           serves = r.at.serves;
           folds = l.folds;
           space = l.space;
           small = l.small;
           units = small;
-          placed = subst (Placed c l.needs went) (sym run) works_on;
+          placed = subst (HoldsInPhase c l.needs went) (sym run) works_on;
         };
         number = refl;
         allowance = refl;
         count = r.count;
         lands = ap (run_for (step c h.number) r.count) machine_runs ∙ r.lands (callers c h.number h.stack.below)
             ∙ ap (λ ws. machine_at (block_for c h.number h.function) (callers c h.number ws) w) (sym r.keeps.below) ∙ sym (ap (machine_in c went) run);
-        machine = subst Has_machine (sym run) tt;
+        machine = subst HasMachine (sym run) tt;
         rises = r.rises;
       };
       phase = refl;
@@ -269,7 +269,7 @@ module _ (c : PlainCode) (h : Thread) (l : Loaded c h) (run : h.phase ≡ phase.
       rises = s.0.rises;
     }
 
-  module _ (s : Stands_before (block_for c h.number h.function) h.allowance (work_of h) instruction.End) where
+  module _ (s : StandsBefore (block_for c h.number h.function) h.allowance (work_of h) instruction.End) where
     abbrev ended : Thread
     ended = record { number = h.number; phase = phase.Ended; function = h.function; at = h.at; stack = h.stack; own = h.own; units = h.units; allowance = h.allowance; branches = h.branches; joining = h.joining }
 
@@ -301,7 +301,7 @@ module _ (c : PlainCode) (h : Thread) (l : Loaded c h) (run : h.phase ≡ phase.
       rises = omega arith;
     }
 
-  module _ (to : ℕ) (s : Stands_before (block_for c h.number h.function) h.allowance (work_of h) (instruction.Pause to)) where
+  module _ (to : ℕ) (s : StandsBefore (block_for c h.number h.function) h.allowance (work_of h) (instruction.Pause to)) where
     abbrev paused : Thread
     paused = record { number = h.number; phase = phase.Paused; function = h.function; at = to; stack = h.stack; own = h.own; units = h.units; allowance = h.allowance; branches = h.branches; joining = h.joining }
 
@@ -405,7 +405,7 @@ module _ (c : PlainCode) (h : Thread) (l : Loaded c h) (run : h.phase ≡ phase.
                 own = fork_is_own;
                 is = is;
                 forks = forks;
-                units = ap units_of stepped ∙ sym counted;
+                units = ap machine_units stepped ∙ sym counted;
                 seeds = waits.for.seeds;
                 view = ap view_of stepped;
                 numbers = sym waits.names;

@@ -7,9 +7,9 @@ use Rattle.thread_code.specs.Plain.{PlainCode}
 use Rattle.thread_code.specs.Machine.{is_ended}
 use Rattle.thread_code.specs.Alone.{code_engine}
 use Rattle.core_machine.specs.declared.thread.Thread.{Thread}
-use Rattle.core_machine.specs.Branches.{Gathered, Says}
+use Rattle.core_machine.specs.Branches.{Gathered, HoldsReplies}
 use Rattle.core_machine.specs.Held.{machine_in, machine_of}
-use Rattle.core_machine.specs.Threads.{Stands_in, Waits_for, StandsFor, never, since, settling, joining, HasSettled}
+use Rattle.core_machine.specs.Threads.{StandsInPhase, WaitsForReplies, StandsFor, never, since, settling, joining, HasSettled}
 use Rattle.core_machine.specs.Forks.{next_replies, with_replies}
 
 -- ---- the last of a list
@@ -102,34 +102,34 @@ pub some_long : (rs : List Reply) → rs ≢ [] → 0 < length rs
 some_long [] some = absurd (some refl)
 some_long (r ∷ rs) some = omega arith
 
-pub says_count : (g : Gathered) (rs : List Reply) → Says g rs → length g.ended ≡ length rs
+pub says_count : (g : Gathered) (rs : List Reply) → HoldsReplies g rs → length g.ended ≡ length rs
 says_count g rs s = ap length s.ended ∙ length-map rs is_ended
 
 -- ---- a reply is settled
 
 module _ (c : PlainCode) (h h' : Thread) (k : ℕ) (at : HasSettled h k) (number : h'.number ≡ h.number) (allowance : h'.allowance ≡ h.allowance) (same : machine_of c h' ≡ machine_of c h) (still : h'.phase ≡ h.phase) (units : h'.units ≡ h.units) where
-  waits_still : Waits_for h'
+  waits_still : WaitsForReplies h'
   waits_still = record { before = at.before; phase = still ∙ at.phase; within = omega (arith, at.within, units, allowance) }
 
-  settled_in : (ys : List Exchange) (job : Job) (before : List (List Reply)) (qs : List Reply) → h.allowance ≡ allowance_of job → Reached (code_engine c h.number) ys (Inside job before (machine_of c h)) → qs ≢ [] → Says h'.branches qs → StandsFor c h' (at_fork ys job (before ++ qs ∷ []))
+  settled_in : (ys : List Exchange) (job : Job) (before : List (List Reply)) (qs : List Reply) → h.allowance ≡ allowance_of job → Reached (code_engine c h.number) ys (Inside job before (machine_of c h)) → qs ≢ [] → HoldsReplies h'.branches qs → StandsFor c h' (at_fork ys job (before ++ qs ∷ []))
   settled_in ys job before qs al reached some says =
       settling ys job before qs (allowance ∙ al)
       (subst (λ m. Reached (code_engine c h'.number) ys (Inside job before m)) (sym same) (subst (λ t. Reached (code_engine c t) ys (Inside job before (machine_of c h))) (sym number) reached))
       waits_still some says
 
-  pub settle_stands : (xs : List Exchange) (rs : List Reply) (r : Reply) → length rs ≡ k → (Says h.branches rs → Says h'.branches (rs ++ r ∷ [])) → (zs : List Exchange) → zs ≡ with_replies xs rs → StandsFor c h zs → StandsFor c h' (with_replies xs (rs ++ r ∷ []))
+  pub settle_stands : (xs : List Exchange) (rs : List Reply) (r : Reply) → length rs ≡ k → (HoldsReplies h.branches rs → HoldsReplies h'.branches (rs ++ r ∷ [])) → (zs : List Exchange) → zs ≡ with_replies xs rs → StandsFor c h zs → StandsFor c h' (with_replies xs (rs ++ r ∷ []))
   settle_stands xs rs r n more zs e (never fresh) = let w = sym fresh ∙ at.phase in cc
   settle_stands xs rs r n more zs e (since ys job before m al reached st) =
-      let s = subst (λ p. Stands_in c h p m) at.phase st in
+      let s = subst (λ p. StandsInPhase c h p m) at.phase st in
       let z : length rs ≡ 0 = let u = ap length s.1.ended in omega (arith, n, u, at.count) in
       let none : rs ≡ [] = no_length rs z in
       let is : m ≡ machine_of c h = s.0 ∙ sym (ap (machine_in c h) at.phase) in
-      let says = more (subst (Says h.branches) (sym none) s.1) in
+      let says = more (subst (HoldsReplies h.branches) (sym none) s.1) in
       let to = from_none xs ys job before (e ∙ ap (with_replies xs) none) (rs ++ r ∷ []) (some_of rs r) in
       subst (StandsFor c h') to (settled_in ys job before (rs ++ r ∷ []) al (subst (λ m. Reached (code_engine c h.number) ys (Inside job before m)) is reached) (some_of rs r) says)
   settle_stands xs rs r n more zs e (settling ys job before rs' al reached w some says) =
       let count : length rs' ≡ length rs = omega (arith, says_count h.branches rs' says, at.count, n) in
       let some' : rs ≢ [] = long_some rs (omega (arith, count, some_long rs' some)) in
       let f = from_some xs ys job before rs rs' some' e in
-      subst (StandsFor c h') (f.1 (rs ++ r ∷ []) (some_of rs r)) (settled_in ys job before (rs ++ r ∷ []) al reached (some_of rs r) (more (subst (Says h.branches) f.0 says)))
+      subst (StandsFor c h') (f.1 (rs ++ r ∷ []) (some_of rs r)) (settled_in ys job before (rs ++ r ∷ []) al reached (some_of rs r) (more (subst (HoldsReplies h.branches) f.0 says)))
   settle_stands xs rs r n more zs e (joining ys job before rs' m al reached p q st) = let w = sym p ∙ at.phase in cc

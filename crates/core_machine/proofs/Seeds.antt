@@ -12,14 +12,14 @@ use Rattle.forec_kernel.specs.Engine.{Start, Wake, Seed, Written, written, AtFor
 use Rattle.thread_code.specs.declared.instruction.Instruction.TheVariants as instruction
 use Rattle.thread_code.specs.Plain.{PlainCode}
 use Rattle.thread_code.specs.Valid.{branches_in, arguments_of}
-use Rattle.thread_code.specs.Machine.{Machine, Waits, awaited, waking, living, starts, wakes, handed, uses_of, act, step}
+use Rattle.thread_code.specs.Machine.{Machine, Waits, awaited, waking, living, starts, wakes, handed, code_uses, act, step}
 use Rattle.thread_code.specs.Alone.{block_of, view_of}
-use Rattle.thread_state.specs.Frames.{arguments, without}
-use Rattle.thread_state.specs.Kept.{Kept, own_of, place_in, place_of, no_copy, HavePlaces, handed_by, Serves}
+use Rattle.thread_state.specs.Frames.{topmost_arguments, without}
+use Rattle.thread_state.specs.Kept.{PlainOwn, own_of, place_in, place_of, no_copy, HavePlaces, handed_by, SuitsThread}
 use Rattle.thread_steps.specs.BlockRun.{work, point_of, machine_at}
 use Rattle.core_machine.specs.declared.thread.Thread.{Thread}
 use Rattle.core_machine.specs.declared.thread.Phase.TheVariants as phase
-use Rattle.core_machine.specs.Held.{machine_in, branch_of, IsBranch, AreBranches, Waits_at}
+use Rattle.core_machine.specs.Held.{machine_in, branch_of, IsBranch, AreBranches, WaitsAtFork}
 use Rattle.core_machine.specs.Threads.{Loaded, HasSettled}
 use Rattle.forec_kernel.specs.Packets.{PlainPacket}
 use Rattle.forec_kernel.specs.Packed.{IsJob}
@@ -74,23 +74,23 @@ all_first v vs uses h = by (contains v uses) (all_in vs uses) h
     by true false h = cc
     by false b h = cc
 
-module _ (c : PlainCode) (t : ℕ) (k : Kept) (s : Serves c t k) where
-  pub place_is : (v : ℕ) → IsTrue (contains v (uses_of c t)) → place_in k v ≡ place_of (uses_of c t) v
-  place_is v h = got k.places v (place_of (uses_of c t) v) 0 (s.places v h)
+module _ (c : PlainCode) (t : ℕ) (k : PlainOwn) (s : SuitsThread c t k) where
+  pub place_is : (v : ℕ) → IsTrue (contains v (code_uses c t)) → place_in k v ≡ place_of (code_uses c t) v
+  place_is v h = got k.places v (place_of (code_uses c t) v) 0 (s.places v h)
 
-  pub have_places : (vs : List ℕ) → IsTrue (all_in vs (uses_of c t)) → HavePlaces k vs
+  pub have_places : (vs : List ℕ) → IsTrue (all_in vs (code_uses c t)) → HavePlaces k vs
   have_places [] h = tt
   have_places (v ∷ vs) h =
-      let f = all_first v vs (uses_of c t) h in
-      (slice_get_within k.places v _ (s.places v f.0), omega (arith, place_is v f.0, place_within (uses_of c t) v f.0, s.copies), have_places vs f.1)
+      let f = all_first v vs (code_uses c t) h in
+      (slice_get_within k.places v _ (s.places v f.0), omega (arith, place_is v f.0, place_within (code_uses c t) v f.0, s.copies), have_places vs f.1)
 
-  pub handed_are : (vs : List ℕ) → IsTrue (all_in vs (uses_of c t)) → handed_by k vs ≡ unmarked_copies (values_in (handed_down (uses_of c t) k.copies vs))
+  pub handed_are : (vs : List ℕ) → IsTrue (all_in vs (code_uses c t)) → handed_by k vs ≡ unmarked_copies (values_in (handed_down (code_uses c t) k.copies vs))
   handed_are [] h = refl
   handed_are (v ∷ vs) h =
-      let f = all_first v vs (uses_of c t) h in
-      let e : get_or k.copies (place_in k v) no_copy ≡ copy_of (uses_of c t) k.copies v = ap (λ i. get_or k.copies i no_copy) (place_is v f.0) ∙ sym (copy_at (uses_of c t) k.copies v f.0 s.copies) in
+      let f = all_first v vs (code_uses c t) h in
+      let e : get_or k.copies (place_in k v) no_copy ≡ copy_of (code_uses c t) k.copies v = ap (λ i. get_or k.copies i no_copy) (place_is v f.0) ∙ sym (copy_at (code_uses c t) k.copies v f.0 s.copies) in
       let one : VarCopy → VarCopy = λ x. record { value = x.value; modified = false } in
-      ap (λ x. one x ∷ handed_by k vs) e ∙ ap (λ l. one (copy_of (uses_of c t) k.copies v) ∷ l) (handed_are vs f.1)
+      ap (λ x. one x ∷ handed_by k vs) e ∙ ap (λ l. one (copy_of (code_uses c t) k.copies v) ∷ l) (handed_are vs f.1)
 
 -- ---- at a fork
 
@@ -100,7 +100,7 @@ branch_in c t (b ∷ bs) zero h lt = h.0
 branch_in c t (b ∷ bs) (suc k) h lt = branch_in c t bs k h.1 (omega arith)
 
 module _ (c : PlainCode) (h : Thread) (l : Loaded c h) {n : ℕ} (at : HasSettled h n) where
-  abbrev w0 : Waits_at c l.needs h at.before
+  abbrev w0 : WaitsAtFork c l.needs h at.before
   w0 = waits c h l at
 
   abbrev bs : List ℕ
@@ -113,17 +113,17 @@ module _ (c : PlainCode) (h : Thread) (l : Loaded c h) {n : ℕ} (at : HasSettle
     pub fork_room : arguments_of c.shape par ≤ length h.stack.stack
     fork_room = (fine c h.number None at.before (work h.at h.stack h.own at.before) w0.works.at (omega arith) (instruction.Fork j to) is).1
 
-    fork_seeds : w0.seeds ≡ starts c h.number h.own.copies par (arguments (arguments_of c.shape par) h.stack.stack [])
+    fork_seeds : w0.seeds ≡ starts c h.number h.own.copies par (topmost_arguments (arguments_of c.shape par) h.stack.stack [])
     fork_seeds =
         let p = point_of (block_of c h.number) h.at h.stack in
         let go : List ℤ → List ℤ → Machine = λ args rest. Waits (awaited par (starts c h.number h.own.copies par args) p to rest) (own_of h.own) (at.before + 1) in
-        let e : step c h.number (machine_at (block_of c h.number) [] (work h.at h.stack h.own at.before)) ≡ go (arguments (arguments_of c.shape par) h.stack.stack []) (without (arguments_of c.shape par) h.stack.stack) =
+        let e : step c h.number (machine_at (block_of c h.number) [] (work h.at h.stack h.own at.before)) ≡ go (topmost_arguments (arguments_of c.shape par) h.stack.stack []) (without (arguments_of c.shape par) h.stack.stack) =
         ap (λ i. act c h.number i p [] (own_of h.own) at.before) is ∙ args_act (arguments_of c.shape par) h.stack.stack [] at.before go fork_room in
-        let v : AtFork w0.seeds ≡ AtFork (starts c h.number h.own.copies par (arguments (arguments_of c.shape par) h.stack.stack [])) = sym w0.view ∙ ap view_of e in
+        let v : AtFork w0.seeds ≡ AtFork (starts c h.number h.own.copies par (topmost_arguments (arguments_of c.shape par) h.stack.stack [])) = sym w0.view ∙ ap view_of e in
         cc
 
     pub fork_numbers : bs ≡ par
-    fork_numbers = w0.numbers ∙ ap (map branch_of) fork_seeds ∙ starts_name c h.number h.own.copies par (arguments (arguments_of c.shape par) h.stack.stack [])
+    fork_numbers = w0.numbers ∙ ap (map branch_of) fork_seeds ∙ starts_name c h.number h.own.copies par (topmost_arguments (arguments_of c.shape par) h.stack.stack [])
 
     pub numbers_room : arguments_of c.shape bs ≤ length h.stack.stack
     numbers_room = subst (λ bs. arguments_of c.shape bs ≤ length h.stack.stack) (sym fork_numbers) fork_room
@@ -133,9 +133,9 @@ module _ (c : PlainCode) (h : Thread) (l : Loaded c h) {n : ℕ} (at : HasSettle
         let a = h.allowance - h.units in
         let stack = h.stack.stack in
         let job : ℕ → List ℤ → Written = λ b args. record { branch = b; job = Start args (handed c h.number h.own.copies b) a } in
-        let jobs : jobs_at c h ≡ map (written a) (starts c h.number h.own.copies bs (arguments (arguments_of c.shape bs) stack [])) =
-        jobs_are c h l at ∙ ap (map (written a)) fork_seeds ∙ ap (λ bs. map (written a) (starts c h.number h.own.copies bs (arguments (arguments_of c.shape bs) stack []))) (sym fork_numbers) in
-        start_at c h.number a h.own.copies bs (arguments (arguments_of c.shape bs) stack []) k w (ap (λ l. slice_get l k) (sym jobs) ∙ e)
+        let jobs : jobs_at c h ≡ map (written a) (starts c h.number h.own.copies bs (topmost_arguments (arguments_of c.shape bs) stack [])) =
+        jobs_are c h l at ∙ ap (map (written a)) fork_seeds ∙ ap (λ bs. map (written a) (starts c h.number h.own.copies bs (topmost_arguments (arguments_of c.shape bs) stack []))) (sym fork_numbers) in
+        start_at c h.number a h.own.copies bs (topmost_arguments (arguments_of c.shape bs) stack []) k w (ap (λ l. slice_get l k) (sym jobs) ∙ e)
         ∙ ap (job (branch_at h k)) (args_are (arguments_of c.shape bs) stack (params_in c.shape.threads (branch_at h k)) (arguments_of c.shape (take k bs)) numbers_room (sum_within c.shape bs k lt))
 
   wakes_in : (t : ℕ) (copies : List VarCopy) (par : List ℕ) (to : ℕ) (m : Machine) (seeds : List Seed) → par ≢ [] → (p : _) (u : ℕ) → waking c t par to p [] (own_of h.own) u ≡ m → view_of m ≡ AtFork seeds → seeds ≡ wakes c t h.own.copies par
@@ -177,10 +177,10 @@ module _ (c : PlainCode) (h : Thread) (l : Loaded c h) {n : ℕ} (at : HasSettle
     pub is_branch : IsBranch c h.number b
     is_branch = branch_in c h.number bs k w0.branches lt
 
-    pub values_are : handed_by h.own (uses_of c b) ≡ unmarked_copies (handed c h.number h.own.copies b)
-    values_are = handed_are c h.number h.own l.serves (uses_of c b) is_branch.uses
+    pub values_are : handed_by h.own (code_uses c b) ≡ unmarked_copies (handed c h.number h.own.copies b)
+    values_are = handed_are c h.number h.own l.serves (code_uses c b) is_branch.uses
 
-    pub job_by : (p p' : Packet) → HasKind c h k p p' → (q : PlainPacket) → q.kind ≡ plain_kind p'.kind → q.args ≡ p'.args.items → q.copies ≡ handed_by h.own (uses_of c b) → q.allowance ≡ h.allowance - h.units →
+    pub job_by : (p p' : Packet) → HasKind c h k p p' → (q : PlainPacket) → q.kind ≡ plain_kind p'.kind → q.args ≡ p'.args.items → q.copies ≡ handed_by h.own (code_uses c b) → q.allowance ≡ h.allowance - h.units →
         (w : Written) → slice_get (jobs_at c h) k ≡ Some w → (w.branch ≡ b) × IsJob q w.job
     job_by p p' kinds q qk qa qc ql w e = by (fork_kind c h.own (instruction_of h.branches.fork) w0.forks)
       where

@@ -13,15 +13,15 @@ use Rattle.thread_code.specs.Alone.{block_of}
 use Rattle.thread_steps.specs.BlockRun.{no_block, block_for, IsSuccessor, depth_after, Comes, first, next}
 use Rattle.thread_steps.proofs.Steps.{comes_leads}
 use Rattle.core_machine.specs.declared.depths.TheConstants.{UNKNOWN}
-use Rattle.core_machine.specs.Depths.{goes_on, target, IsSoundIn, HoldsDepths, IsFollowed, AreFollowed, unknown_in, Finds, IsSpread, IsMost, IsGreatest}
-use Rattle.core_machine.specs.Room.{function_block, AreShort}
+use Rattle.core_machine.specs.Depths.{falls_through, jump_target, IsSoundIn, HoldsDepths, IsFollowed, AreFollowed, unknown_in, FindsDepths, IsSpread, IsMost, IsGreatest}
+use Rattle.core_machine.specs.Room.{block_of_function, AreShort}
 
 -- ---- where an instruction leads
 
 either_way : (p to q : ℕ) → (q ≡ p + 1) ⊎ (q ≡ to) → ((true ≡ true) × (q ≡ p + 1)) ⊎ (Some to ≡ Some q)
 either_way p to q h = ⊎_elim (λ e. inl (refl, e)) (λ e. inr (ap Some (sym e))) h
 
-pub next_split : (p : ℕ) (i : Instruction) (q : ℕ) → IsSuccessor p i q → ((goes_on i ≡ true) × (q ≡ p + 1)) ⊎ (target i ≡ Some q)
+pub next_split : (p : ℕ) (i : Instruction) (q : ℕ) → IsSuccessor p i q → ((falls_through i ≡ true) × (q ≡ p + 1)) ⊎ (jump_target i ≡ Some q)
 next_split p (instruction.Push n) q h = inl (refl, h)
 next_split p (instruction.Quiet n) q h = inl (refl, h)
 next_split p (instruction.Load x) q h = inl (refl, h)
@@ -53,7 +53,7 @@ next_split p instruction.End q h = absurd h
 next_split p (instruction.Call f) q h = inl (refl, h)
 next_split p instruction.Return q h = absurd h
 
-pub next_on : (p : ℕ) (i : Instruction) → goes_on i ≡ true → IsSuccessor p i (p + 1)
+pub next_on : (p : ℕ) (i : Instruction) → falls_through i ≡ true → IsSuccessor p i (p + 1)
 next_on p (instruction.Push n) h = refl
 next_on p (instruction.Quiet n) h = refl
 next_on p (instruction.Load x) h = refl
@@ -88,7 +88,7 @@ next_on p instruction.Return h = cc
 that_one : (to q : ℕ) → Some to ≡ Some q → q ≡ to
 that_one to q h = cc
 
-pub next_to : (p : ℕ) (i : Instruction) (q : ℕ) → target i ≡ Some q → IsSuccessor p i q
+pub next_to : (p : ℕ) (i : Instruction) (q : ℕ) → jump_target i ≡ Some q → IsSuccessor p i q
 next_to p (instruction.Push n) q h = cc
 next_to p (instruction.Quiet n) q h = cc
 next_to p (instruction.Load x) q h = cc
@@ -167,8 +167,8 @@ module _ (c : PlainCode) (b : PlainBlock) (sound : IsSoundIn c b) where
 pub sound_thread : (c : PlainCode) → IsValidCode c → (t : ℕ) → t < length c.threads → IsSoundIn c (block_of c t)
 sound_thread c valid t lt = (Some t, (valid.each_thread t (block_of c t) (slice_get-get_or c.threads t _ lt)).sound)
 
-pub sound_function : (c : PlainCode) → IsValidCode c → (f : ℕ) → f < length c.functions → IsSoundIn c (function_block c f)
-sound_function c valid f lt = (None, (valid.each_function f (function_block c f) (slice_get-get_or c.functions f no_block lt)).sound)
+pub sound_function : (c : PlainCode) → IsValidCode c → (f : ℕ) → f < length c.functions → IsSoundIn c (block_of_function c f)
+sound_function c valid f lt = (None, (valid.each_function f (block_of_function c f) (slice_get-get_or c.functions f no_block lt)).sound)
 
 -- ---- one depth more
 
@@ -216,10 +216,10 @@ spread_at At Bt d ds ds' r to from h = record {
   none = λ e p at. h.none e p (from p at);
 }
 
-pub finds_more : (a b : Bool) (xs ys zs : List ℕ) → Finds a xs ys → Finds b ys zs → Finds (a || b) xs zs
+pub finds_more : (a b : Bool) (xs ys zs : List ℕ) → FindsDepths a xs ys → FindsDepths b ys zs → FindsDepths (a || b) xs zs
 finds_more true true xs ys zs h g = omega (arith, h, g)
-finds_more true false xs ys zs h g = subst (λ l. Finds true xs l) (sym g) h
-finds_more false true xs ys zs h g = subst (λ l. Finds true l zs) h g
+finds_more true false xs ys zs h g = subst (λ l. FindsDepths true xs l) (sym g) h
+finds_more false true xs ys zs h g = subst (λ l. FindsDepths true l zs) h g
 finds_more false false xs ys zs h g = g ∙ h
 
 pub neither : (a b : Bool) → (a || b) ≡ false → (a ≡ false) × (b ≡ false)
@@ -242,7 +242,7 @@ spread_both At Bt d ds ds' ds'' a b lt h g = record {
       (λ x known. g.none both.1 p x (ap (λ l. get_or l p 0) (same a both.0 h.finds) ∙ known)) at;
 }
   where
-    same : (r : Bool) → r ≡ false → Finds r ds ds' → ds' ≡ ds
+    same : (r : Bool) → r ≡ false → FindsDepths r ds ds' → ds' ≡ ds
     same true e f = cc
     same false e f = f
 
@@ -270,11 +270,11 @@ module _ (c : PlainCode) (b : PlainBlock) (ds : List ℕ) (p : ℕ) (i : Instruc
       one : (x : Instruction) → Some x ≡ Some i → x ≡ i
       one x h = cc
 
-      kept : (r : Bool) → r ≡ false → Finds r ds ds' → ds' ≡ ds
+      kept : (r : Bool) → r ≡ false → FindsDepths r ds ds' → ds' ≡ ds
       kept true e f = cc
       kept false e f = f
 
-pub more_followed : (b : PlainBlock) (found fresh : Bool) (ds ds' : List ℕ) (at : ℕ) → (found ≡ false → AreFollowed b ds at) → Finds fresh ds ds' → (fresh ≡ false → IsFollowed b ds' at) → (found || fresh) ≡ false → AreFollowed b ds' (at + 1)
+pub more_followed : (b : PlainBlock) (found fresh : Bool) (ds ds' : List ℕ) (at : ℕ) → (found ≡ false → AreFollowed b ds at) → FindsDepths fresh ds ds' → (fresh ≡ false → IsFollowed b ds' at) → (found || fresh) ≡ false → AreFollowed b ds' (at + 1)
 more_followed b found true ds ds' at old finds here e = let both = neither found true e in absurd (true_false both.1)
   where
     true_false : true ≡ false → ⊥
@@ -300,7 +300,7 @@ holds_first c b ds long some start others = record {
     by zero lt known = subst (Comes c b 0) (sym start) first
     by (suc p) lt known = absurd (known (others (suc p) (omega arith) (omega (arith, lt, long))))
 
-pub fewer : (r : Bool) (ds ds' : List ℕ) → r ≡ true → Finds r ds ds' → unknown_in ds' < unknown_in ds
+pub fewer : (r : Bool) (ds ds' : List ℕ) → r ≡ true → FindsDepths r ds ds' → unknown_in ds' < unknown_in ds
 fewer true ds ds' e h = h
 fewer false ds ds' e h = cc
 

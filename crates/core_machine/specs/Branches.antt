@@ -57,48 +57,48 @@ chosen again live bs = cond again (living live bs) bs
 -- ---- how replies are counted
 
 -- the first trap stays
-abbrev pub first_trap : Verdict → Verdict → Verdict
-first_trap verdict.Combine v = v
-first_trap (verdict.Trap place trap) v = verdict.Trap place trap
-first_trap verdict.Over v = verdict.Over
+abbrev pub first_verdict : Verdict → Verdict → Verdict
+first_verdict verdict.Combine v = v
+first_verdict (verdict.Trap place trap) v = verdict.Trap place trap
+first_verdict verdict.Over v = verdict.Over
 
-abbrev pub noted : Bool → Gathered → Gathered
-noted e g = record { fork = g.fork; numbers = g.numbers; ended = g.ended ++ e ∷ []; joined = g.joined; units = g.units; verdict = g.verdict; room = g.room }
+abbrev pub noted_ending : Bool → Gathered → Gathered
+noted_ending e g = record { fork = g.fork; numbers = g.numbers; ended = g.ended ++ e ∷ []; joined = g.joined; units = g.units; verdict = g.verdict; room = g.room }
 
-abbrev pub counted : ℕ → Gathered → Gathered
-counted n g = record { fork = g.fork; numbers = g.numbers; ended = g.ended; joined = g.joined; units = min (g.units + n) (2 ^ 64 - 1); verdict = g.verdict; room = g.room }
+abbrev pub with_more_units : ℕ → Gathered → Gathered
+with_more_units n g = record { fork = g.fork; numbers = g.numbers; ended = g.ended; joined = g.joined; units = min (g.units + n) (2 ^ 64 - 1); verdict = g.verdict; room = g.room }
 
 -- ---- what the replies say
 
 -- the leftmost trap, where there is one
-abbrev pub trap_of : List Reply → Verdict
-trap_of [] = verdict.Combine
-trap_of (WasTrapped place trap u ∷ rs) = verdict.Trap place trap
-trap_of (_ ∷ rs) = trap_of rs
+abbrev pub leftmost_trap : List Reply → Verdict
+leftmost_trap [] = verdict.Combine
+leftmost_trap (WasTrapped place trap u ∷ rs) = verdict.Trap place trap
+leftmost_trap (_ ∷ rs) = leftmost_trap rs
 
 -- one that is over counts before any trap
 abbrev pub verdict_of : List Reply → Verdict
-verdict_of rs = cond (some_reply_over rs) verdict.Over (trap_of rs)
+verdict_of rs = cond (some_reply_over rs) verdict.Over (leftmost_trap rs)
 
 -- a sum; or, where it is more than any allowance, another number that is
 abbrev pub SaturatesTo : ℕ → ℕ → Type 0
 SaturatesTo n sum = (n ≡ sum) ⊎ ((MAX_BUDGET < n) × (MAX_BUDGET < sum))
 
 -- these are the replies so far
-pub record Says (g : Gathered) (rs : List Reply) : Type 0 where
+pub record HoldsReplies (g : Gathered) (rs : List Reply) : Type 0 where
   pub ended : g.ended ≡ map is_ended rs
   pub units : SaturatesTo g.units (all_units rs)
   pub verdict : g.verdict ≡ verdict_of rs
 
 -- one more reply was settled, of which this is known
-pub record Adds (g : Gathered) (is : Reply → Type 0) (g' : Gathered) : Type 0 where
+pub record AddsReply (g : Gathered) (is : Reply → Type 0) (g' : Gathered) : Type 0 where
   pub fork : g'.fork ≡ g.fork
   pub numbers : g'.numbers ≡ g.numbers
   pub joined : g'.joined ≡ g.joined
   pub room : g'.room ≡ g.room
   pub count : length g'.ended ≡ length g.ended + 1
-  pub says : (rs : List Reply) (r : Reply) → is r → Says g rs → Says g' (rs ++ r ∷ [])
+  pub says : (rs : List Reply) (r : Reply) → is r → HoldsReplies g rs → HoldsReplies g' (rs ++ r ∷ [])
 
 -- that of a packet
-abbrev pub Settles : Gathered → Packet → Gathered → Type 0
-Settles g p g' = Adds g (IsReply (plain_packet p)) g'
+abbrev pub SettlesPacket : Gathered → Packet → Gathered → Type 0
+SettlesPacket g p g' = AddsReply g (IsReply (plain_packet p)) g'

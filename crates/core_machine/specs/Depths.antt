@@ -10,70 +10,70 @@ use Rattle.core_machine.specs.declared.depths.TheConstants.{UNKNOWN}
 -- ---- where an instruction leads
 
 -- to the next address
-abbrev pub goes_on : Instruction → Bool
-goes_on (instruction.Push n) = true
-goes_on (instruction.Quiet n) = true
-goes_on (instruction.Load x) = true
-goes_on (instruction.Store x) = true
-goes_on (instruction.LoadAt x n place) = true
-goes_on (instruction.StoreAt x n place) = true
-goes_on (instruction.Clear x n) = true
-goes_on (instruction.Table n place) = true
-goes_on (instruction.Get v) = true
-goes_on (instruction.Put v) = true
-goes_on (instruction.GetAt v n place) = true
-goes_on (instruction.PutAt v n place) = true
-goes_on (instruction.Unary op) = true
-goes_on (instruction.Binary op place) = true
-goes_on instruction.Truth = true
-goes_on (instruction.Zero to) = true
-goes_on (instruction.NonZero to) = true
-goes_on (instruction.Jump to) = false
-goes_on (instruction.Unit n) = true
-goes_on (instruction.Fill x n) = true
-goes_on (instruction.Turn x place) = true
-goes_on (instruction.Flag f n) = true
-goes_on (instruction.Keep f) = true
-goes_on (instruction.Flagged f to) = true
-goes_on (instruction.Fork j to) = true
-goes_on (instruction.Again j to) = true
-goes_on (instruction.Pause to) = false
-goes_on instruction.End = false
-goes_on (instruction.Call f) = true
-goes_on instruction.Return = false
+abbrev pub falls_through : Instruction → Bool
+falls_through (instruction.Push n) = true
+falls_through (instruction.Quiet n) = true
+falls_through (instruction.Load x) = true
+falls_through (instruction.Store x) = true
+falls_through (instruction.LoadAt x n place) = true
+falls_through (instruction.StoreAt x n place) = true
+falls_through (instruction.Clear x n) = true
+falls_through (instruction.Table n place) = true
+falls_through (instruction.Get v) = true
+falls_through (instruction.Put v) = true
+falls_through (instruction.GetAt v n place) = true
+falls_through (instruction.PutAt v n place) = true
+falls_through (instruction.Unary op) = true
+falls_through (instruction.Binary op place) = true
+falls_through instruction.Truth = true
+falls_through (instruction.Zero to) = true
+falls_through (instruction.NonZero to) = true
+falls_through (instruction.Jump to) = false
+falls_through (instruction.Unit n) = true
+falls_through (instruction.Fill x n) = true
+falls_through (instruction.Turn x place) = true
+falls_through (instruction.Flag f n) = true
+falls_through (instruction.Keep f) = true
+falls_through (instruction.Flagged f to) = true
+falls_through (instruction.Fork j to) = true
+falls_through (instruction.Again j to) = true
+falls_through (instruction.Pause to) = false
+falls_through instruction.End = false
+falls_through (instruction.Call f) = true
+falls_through instruction.Return = false
 
 -- to the address that it names
-abbrev pub target : Instruction → Option ℕ
-target (instruction.Push n) = None
-target (instruction.Quiet n) = None
-target (instruction.Load x) = None
-target (instruction.Store x) = None
-target (instruction.LoadAt x n place) = None
-target (instruction.StoreAt x n place) = None
-target (instruction.Clear x n) = None
-target (instruction.Table n place) = None
-target (instruction.Get v) = None
-target (instruction.Put v) = None
-target (instruction.GetAt v n place) = None
-target (instruction.PutAt v n place) = None
-target (instruction.Unary op) = None
-target (instruction.Binary op place) = None
-target instruction.Truth = None
-target (instruction.Zero to) = Some to
-target (instruction.NonZero to) = Some to
-target (instruction.Jump to) = Some to
-target (instruction.Unit n) = None
-target (instruction.Fill x n) = None
-target (instruction.Turn x place) = None
-target (instruction.Flag f n) = None
-target (instruction.Keep f) = None
-target (instruction.Flagged f to) = Some to
-target (instruction.Fork j to) = Some to
-target (instruction.Again j to) = Some to
-target (instruction.Pause to) = Some to
-target instruction.End = None
-target (instruction.Call f) = None
-target instruction.Return = None
+abbrev pub jump_target : Instruction → Option ℕ
+jump_target (instruction.Push n) = None
+jump_target (instruction.Quiet n) = None
+jump_target (instruction.Load x) = None
+jump_target (instruction.Store x) = None
+jump_target (instruction.LoadAt x n place) = None
+jump_target (instruction.StoreAt x n place) = None
+jump_target (instruction.Clear x n) = None
+jump_target (instruction.Table n place) = None
+jump_target (instruction.Get v) = None
+jump_target (instruction.Put v) = None
+jump_target (instruction.GetAt v n place) = None
+jump_target (instruction.PutAt v n place) = None
+jump_target (instruction.Unary op) = None
+jump_target (instruction.Binary op place) = None
+jump_target instruction.Truth = None
+jump_target (instruction.Zero to) = Some to
+jump_target (instruction.NonZero to) = Some to
+jump_target (instruction.Jump to) = Some to
+jump_target (instruction.Unit n) = None
+jump_target (instruction.Fill x n) = None
+jump_target (instruction.Turn x place) = None
+jump_target (instruction.Flag f n) = None
+jump_target (instruction.Keep f) = None
+jump_target (instruction.Flagged f to) = Some to
+jump_target (instruction.Fork j to) = Some to
+jump_target (instruction.Again j to) = Some to
+jump_target (instruction.Pause to) = Some to
+jump_target instruction.End = None
+jump_target (instruction.Call f) = None
+jump_target instruction.Return = None
 
 -- ---- what is known so far
 
@@ -102,14 +102,14 @@ unknown_in [] = 0
 unknown_in (d ∷ ds) = cond (d == UNKNOWN) (unknown_in ds + 1) (unknown_in ds)
 
 -- some depths were found, or else all stay as they were
-abbrev pub Finds : Bool → List ℕ → List ℕ → Type 0
-Finds true depths depths' = unknown_in depths' < unknown_in depths
-Finds false depths depths' = depths' ≡ depths
+abbrev pub FindsDepths : Bool → List ℕ → List ℕ → Type 0
+FindsDepths true depths depths' = unknown_in depths' < unknown_in depths
+FindsDepths false depths depths' = depths' ≡ depths
 
 -- this depth was noted at those of these addresses at which none was known
 pub record IsSpread (At : ℕ → Type 0) (depth : ℕ) (depths depths' : List ℕ) (found : Bool) : Type 0 where
   pub long : length depths' ≡ length depths
-  pub finds : Finds found depths depths'
+  pub finds : FindsDepths found depths depths'
   pub each : (p : ℕ) → (get_or depths' p 0 ≡ get_or depths p 0) ⊎ (At p × (get_or depths p 0 ≡ UNKNOWN) × (get_or depths' p 0 ≡ depth))
   pub none : found ≡ false → (p : ℕ) → At p → get_or depths p 0 ≢ UNKNOWN
 

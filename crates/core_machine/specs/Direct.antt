@@ -5,7 +5,7 @@ use Rattle.forec_kernel.specs.Packets.{PlainPacket}
 use Rattle.forec_kernel.specs.Packets as plain
 use Rattle.thread_code.specs.declared.instruction.Instruction.TheVariants as instruction
 use Rattle.thread_code.specs.Plain.{PlainCode}
-use Rattle.thread_code.specs.Machine.{uses_of}
+use Rattle.thread_code.specs.Machine.{code_uses}
 use Rattle.thread_code.specs.Alone.{block_of, CodeAlone}
 use Rattle.thread_state.specs.Kept.{handed_by}
 use Rattle.core_machine.specs.declared.thread.Thread.{Thread}
@@ -33,11 +33,11 @@ IsHeldFork c h = (j : ℕ) × (to : ℕ) × (slice_get (block_of c h.number).ste
 -- the packets that the k-th branch's job would fill
 abbrev pub start_packet : PlainCode → Thread → ℕ → PlainPacket
 start_packet c h k =
-    record { kind = plain.Start; args = args_at c h k; copies = handed_by h.own (uses_of c (branch_at h k)); allowance = h.allowance - h.units; units = 0 }
+    record { kind = plain.Start; args = args_at c h k; copies = handed_by h.own (code_uses c (branch_at h k)); allowance = h.allowance - h.units; units = 0 }
 
 abbrev pub wake_packet : PlainCode → Thread → ℕ → PlainPacket
 wake_packet c h k =
-    record { kind = plain.Wake; args = args_at c h k; copies = handed_by h.own (uses_of c (branch_at h k)); allowance = h.allowance - h.units; units = 0 }
+    record { kind = plain.Wake; args = args_at c h k; copies = handed_by h.own (code_uses c (branch_at h k)); allowance = h.allowance - h.units; units = 0 }
 
 -- how the k-th branch begins its job
 abbrev pub StartsBranch : PlainCode → Thread → ℕ → Thread → Thread → Type 0

@@ -34,7 +34,7 @@ abbrev pub jobs_at : PlainCode → Thread → List Written
 jobs_at c h = map (written (h.allowance - h.units)) (seeds_in (view_of (machine_of c h)))
 
 -- with these exchanges, the last of which has a reply for each job at its forks so far, the thread comes to another fork, and writes these jobs there
-pub record Asks (c : PlainCode) (t : ℕ) (xs : List Exchange) (jobs : List Written) : Type 0 where
+pub record WritesJobs (c : PlainCode) (t : ℕ) (xs : List Exchange) (jobs : List Written) : Type 0 where
   pub outputs : List Output
   pub forks : List (List Written)
   pub runs : CodeAlone c t xs (outputs ++ record { jobs = forks ++ jobs ∷ []; reply = None } ∷ [])

@@ -8,15 +8,15 @@ use Rattle.combine_tree.specs.declared.packet.PacketKind.TheVariants as kind
 use Rattle.thread_code.specs.Plain.{PlainCode}
 use Rattle.thread_code.specs.Alone.{CodeAlone}
 use Rattle.core_machine.specs.declared.thread.Thread.{Thread}
-use Rattle.core_machine.specs.Threads.{HasPaused, Gives}
+use Rattle.core_machine.specs.Threads.{HasPaused, RepliesToLast}
 
 -- it is a reply; and that the thread paused, only where it did
-abbrev pub Replies_by : Thread → PacketKind → Type 0
-Replies_by h kind.Paused = HasPaused h
-Replies_by h kind.Ended = Unit {0}
-Replies_by h (kind.Trapped place trap) = Unit {0}
-Replies_by h kind.Over = Unit {0}
-Replies_by h _ = ⊥
+abbrev pub RepliesByKind : Thread → PacketKind → Type 0
+RepliesByKind h kind.Paused = HasPaused h
+RepliesByKind h kind.Ended = Unit {0}
+RepliesByKind h (kind.Trapped place trap) = Unit {0}
+RepliesByKind h kind.Over = Unit {0}
+RepliesByKind h _ = ⊥
 
 -- each reply in these exchanges is one that its branch, a thread of a greater number, gives to the jobs that it was told
 abbrev pub BranchesAnswer : PlainCode → ℕ → List Exchange → Type 0
@@ -26,5 +26,5 @@ BranchesAnswer c t xs =
 -- where the branches' replies answer their jobs, so does the packet that a thread gives to the last of its own
 abbrev pub RepliesAnswer : Type 0
 RepliesAnswer =
-    (c : PlainCode) (t : ℕ) (xs : List Exchange) (p : PlainPacket) (jobs : List PlainPacket) → t < length c.threads → Gives c t xs p →
+    (c : PlainCode) (t : ℕ) (xs : List Exchange) (p : PlainPacket) (jobs : List PlainPacket) → t < length c.threads → RepliesToLast c t xs p →
     AreJobs jobs (map (λ x. x.job) xs) → BranchesAnswer c t xs → PacketAnswers (CodeAlone c) (length c.threads) t jobs p

@@ -8,8 +8,8 @@ use Rattle.thread_state.specs.Pars.{HavePars}
 use Rattle.thread_steps.specs.BlockRun.{no_block, IsDeep}
 use Rattle.core_machine.specs.declared.room.Needs.{Needs}
 
-abbrev pub function_block : PlainCode → ℕ → PlainBlock
-function_block c f = get_or c.functions f no_block
+abbrev pub block_of_function : PlainCode → ℕ → PlainBlock
+block_of_function c f = get_or c.functions f no_block
 
 -- so many numbers are enough for a frame of the block by itself
 pub record IsFrame (c : PlainCode) (b : PlainBlock) (n : ℕ) : Type 0 where
@@ -39,11 +39,11 @@ pub record EnoughFor (c : PlainCode) (b : PlainBlock) (uses needs : List ℕ) (n
 
 -- each function has what it needs
 abbrev pub AreEnough : PlainCode → List ℕ → Type 0
-AreEnough c needs = (f : ℕ) → f < length c.functions → Enough c (function_block c f) needs (get_or needs f 0)
+AreEnough c needs = (f : ℕ) → f < length c.functions → Enough c (block_of_function c f) needs (get_or needs f 0)
 
 -- each address of a function fits 32 bits
 abbrev pub AreShort : PlainCode → Type 0
-AreShort c = (f : ℕ) → f < length c.functions → length (function_block c f).steps < 2 ^ 32
+AreShort c = (f : ℕ) → f < length c.functions → length (block_of_function c f).steps < 2 ^ 32
 
 -- these are the needs of the code's functions
 pub record AreNeeds (c : PlainCode) (needs : Needs) : Type 0 where

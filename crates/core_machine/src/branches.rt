@@ -8,7 +8,7 @@ ghost use Rattle.forec_kernel.specs.Shapes.{plain_shape};
 ghost use Rattle.combine_tree.specs.Plain.{plain_packet};
 ghost use Rattle.thread_code.specs.Valid.{branches_in};
 ghost use Rattle.thread_state.specs.Pars.{HavePars};
-ghost use Rattle.core_machine.specs.Branches.{no_branches, with_branches, with_verdict, one_joined, first_trap, noted, counted, chosen, Settles};
+ghost use Rattle.core_machine.specs.Branches.{no_branches, with_branches, with_verdict, one_joined, first_verdict, noted_ending, with_more_units, chosen, SettlesPacket};
 
 use crate::fork::ForkAt;
 use combine_tree::{Packet, PacketKind};
@@ -223,7 +223,7 @@ impl Branches {
     /// Takes note of the next branch's reply.
     pub fn settle(&mut self, packet: &Packet)
         requires { length self.old.ended < length self.old.numbers }
-        ensures { Settles self.old packet.now self.new }
+        ensures { SettlesPacket self.old packet.now self.new }
     {
         match packet.kind {
             PacketKind::Over => {
@@ -249,7 +249,7 @@ impl Branches {
     /// One more has replied.
     pub(crate) fn note(&mut self, ended: bool)
         requires { length self.old.ended < length self.old.numbers }
-        ensures { self.new ≡ noted ended self.old }
+        ensures { self.new ≡ noted_ending ended self.old }
     {
         self.ended[self.settled] = ended;
         self.settled += 1;
@@ -259,14 +259,14 @@ impl Branches {
     }
 
     pub(crate) fn count(&mut self, units: u64)
-        ensures { self.new ≡ counted units self.old }
+        ensures { self.new ≡ with_more_units units self.old }
     {
         self.units = self.units.saturating_add(units);
     }
 
     /// A trap tells where none has come before it.
     pub(crate) fn judge_trap(&mut self, place: Place, trap: Trap)
-        ensures { self.new ≡ with_verdict (first_trap self.old.verdict (Verdict.Trap place trap)) self.old }
+        ensures { self.new ≡ with_verdict (first_verdict self.old.verdict (Verdict.Trap place trap)) self.old }
     {
         if self.verdict == Verdict::Combine {
             self.verdict = Verdict::Trap { place, trap };

@@ -5,7 +5,7 @@ ghost use Rattle.std.specs.Prelude.{◌≡◌, ◌+◌, ◌<◌, ◌++◌, ◌�
 ghost use Rattle.forec_kernel.specs.Engine.{Exchange, Reply, Written};
 ghost use Rattle.thread_code.specs.Plain.{plain_code};
 ghost use Rattle.thread_code.specs.Valid.{IsValidCode};
-ghost use Rattle.core_machine.specs.Branches.{Adds};
+ghost use Rattle.core_machine.specs.Branches.{AddsReply};
 ghost use Rattle.core_machine.specs.Threads.{Loaded, StandsFor, CanRun, IsResting, HasReply, HasPaused, HasSettled, IsAtFork, HasJoined};
 ghost use Rattle.core_machine.specs.Forks.{branch_at, jobs_at, with_replies};
 ghost use Rattle.core_machine.specs.Direct.{CanTake, IsNewFork, StartsBranch, WakesBranch, RepliesBy};
@@ -20,7 +20,7 @@ impl Branches {
     #[inline(always)]
     fn settle_with(&mut self, branch: &Thread)
         requires { length self.old.ended < length self.old.numbers }
-        ensures { Adds self.old (RepliesBy branch.now) self.new }
+        ensures { AddsReply self.old (RepliesBy branch.now) self.new }
     {
         if branch.units > branch.allowance {
             self.note(false);

@@ -8,7 +8,7 @@ ghost use Rattle.thread_code.specs.Valid.{IsValidCode, of_shape};
 ghost use Rattle.thread_code.specs.declared.instruction.Instruction.TheVariants as instruction;
 ghost use Rattle.thread_state.specs.Pars.{HavePars};
 ghost use Rattle.core_machine.specs.Depths.{IsSoundIn};
-ghost use Rattle.core_machine.specs.Room.{function_block, IsFrame, Enough, EnoughToCombine, EnoughFor, AreEnough, AreShort, AreNeeds};
+ghost use Rattle.core_machine.specs.Room.{block_of_function, IsFrame, Enough, EnoughToCombine, EnoughFor, AreEnough, AreShort, AreNeeds};
 
 use crate::depths::deepest;
 use crate::merging::variable_at;
@@ -122,7 +122,7 @@ fn frame_needs(alloc: Global, code: &CodeParts, pars: &Pars) -> Result<Vec<u64>,
     requires pars { HavePars (plain_code code.now).shape pars.now }
     ensures long { IfOk result (λ own. length own.items ≡ length (plain_code code.now).functions) }
     ensures each { IfOk result (λ own. (f : ℕ) → f < length (plain_code code.now).functions
-        → IsFrame (plain_code code.now) (function_block (plain_code code.now) f) (get_or own.items f 0)) }
+        → IsFrame (plain_code code.now) (block_of_function (plain_code code.now) f) (get_or own.items f 0)) }
 {
     let mut own = Vec::new(alloc);
     for function in 0..code.functions.len() {
@@ -165,8 +165,8 @@ fn fill(code: &CodeParts, own: &[u64], needs: &mut Vec<u64>, function: u32, fuel
 /// Whether the table has enough for a function.
 fn is_enough(code: &CodeParts, own: u64, needs: &[u64], function: u32) -> bool
     requires function { function < length (plain_code code.now).functions }
-    requires own { IsFrame (plain_code code.now) (function_block (plain_code code.now) function) own }
-    ensures { result ≡ true → Enough (plain_code code.now) (function_block (plain_code code.now) function) needs.now (get_or needs.now function 0) }
+    requires own { IsFrame (plain_code code.now) (block_of_function (plain_code code.now) function) own }
+    ensures { result ≡ true → Enough (plain_code code.now) (block_of_function (plain_code code.now) function) needs.now (get_or needs.now function 0) }
 {
     match whole_need(code, &code.functions[function as usize], own, needs) {
         Some(need) => need <= need_at(needs, function),

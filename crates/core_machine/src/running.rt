@@ -8,7 +8,7 @@ ghost use Rattle.thread_code.specs.declared.instruction.Instruction.TheVariants 
 ghost use Rattle.thread_steps.specs.BlockRun.{block_for};
 ghost use Rattle.core_machine.specs.Held.{IsBefore, HasStopped};
 ghost use Rattle.core_machine.specs.Threads.{Loaded};
-ghost use Rattle.core_machine.specs.RunParts.{RunsBlock, Calls, Returns, Comes_to};
+ghost use Rattle.core_machine.specs.RunParts.{RunsBlock, Calls, Returns, ComesToEvent};
 
 use crate::fork::fork_at;
 use crate::thread::{Event, Phase, Thread};
@@ -108,7 +108,7 @@ impl Thread {
         requires loaded { Loaded (plain_code code.now) self.old }
         requires running { self.old.phase ≡ Phase.Running false }
         requires before { IsBefore (plain_code code.now) self.old (instruction.Pause to) }
-        ensures { Comes_to (plain_code code.now) self.old self.new result }
+        ensures { ComesToEvent (plain_code code.now) self.old self.new result }
     {
         self.phase = Phase::Paused;
         self.at = to;
@@ -119,7 +119,7 @@ impl Thread {
         requires loaded { Loaded (plain_code code.now) self.old }
         requires running { self.old.phase ≡ Phase.Running false }
         requires before { IsBefore (plain_code code.now) self.old instruction.End }
-        ensures { Comes_to (plain_code code.now) self.old self.new result }
+        ensures { ComesToEvent (plain_code code.now) self.old self.new result }
     {
         self.phase = Phase::Ended;
         Event::Ended
@@ -129,7 +129,7 @@ impl Thread {
         requires loaded { Loaded (plain_code code.now) self.old }
         requires running { self.old.phase ≡ Phase.Running false }
         requires before { HasStopped (plain_code code.now) self.old (Stop.Traps place trap units) }
-        ensures { Comes_to (plain_code code.now) self.old self.new result }
+        ensures { ComesToEvent (plain_code code.now) self.old self.new result }
     {
         self.phase = Phase::Trapped { place, trap };
         self.units = units;
@@ -146,7 +146,7 @@ impl Thread {
         requires loaded { Loaded (plain_code code.now) self.old }
         requires running { self.old.phase ≡ Phase.Running false }
         requires before { HasStopped (plain_code code.now) self.old (Stop.Forks units) }
-        ensures { Comes_to (plain_code code.now) self.old self.new result }
+        ensures { ComesToEvent (plain_code code.now) self.old self.new result }
     {
         let fork = fork_at(code, self.number, self.at);
         self.branches.gather(&code.shape, fork, &self.own);
@@ -164,7 +164,7 @@ impl Thread {
     fn run_frames(&mut self, code: &Code) -> Event
         requires loaded { Loaded (plain_code code.now) self.old }
         requires running { self.old.phase ≡ Phase.Running false }
-        ensures { Comes_to (plain_code code.now) self.old self.new result }
+        ensures { ComesToEvent (plain_code code.now) self.old self.new result }
     {
         let parts = code.parts();
         loop {
@@ -186,7 +186,7 @@ impl Thread {
     pub(crate) fn run_on(&mut self, code: &Code) -> Event
         requires loaded { Loaded (plain_code code.now) self.old }
         requires running { self.old.phase ≡ Phase.Running false }
-        ensures { Comes_to (plain_code code.now) self.old self.new result }
+        ensures { ComesToEvent (plain_code code.now) self.old self.new result }
     {
         let parts = code.parts();
         match self.stop_at_once(parts) {

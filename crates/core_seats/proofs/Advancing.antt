@@ -14,9 +14,9 @@ use Rattle.combine_tree.specs.declared.packet.PacketKind.{PacketKind}
 use Rattle.combine_tree.specs.declared.packet.PacketKind.TheVariants as kind
 use Rattle.combine_tree.specs.Plain.{plain_kind, plain_packet}
 use Rattle.core_machine.specs.declared.thread.Thread.{Thread}
-use Rattle.core_machine.specs.Threads.{Loaded, StandsFor, HasSettled, HasReply, HasPaused, Gives}
+use Rattle.core_machine.specs.Threads.{Loaded, StandsFor, HasSettled, HasReply, HasPaused, RepliesToLast}
 use Rattle.core_machine.specs.Forks.{jobs_at}
-use Rattle.core_machine.specs.Replies.{Replies_by}
+use Rattle.core_machine.specs.Replies.{RepliesByKind}
 use Rattle.copy_slots.specs.declared.view.Taker.{Taker}
 use Rattle.copy_slots.specs.Mail.{taker_answered}
 use Rattle.copy_slots.specs.Ports.{child_at, on_child, on_taker, sent_by, got_by, taken_by, answered_by, words_of_parent, words_of_child, IsChild, ChildIs, sent, taken, answered, looked_by_child, after_answer}
@@ -24,12 +24,12 @@ use Rattle.core_seats.specs.declared.active.Active.{Active}
 use Rattle.core_seats.specs.declared.seat.Seat.{Seat}
 use Rattle.core_seats.specs.Asking.{Replies}
 use Rattle.tick_jobs.specs.Branches.{IsBranchOf}
-use Rattle.core_seats.specs.Changes.{Extends, Gains, HasWorked, forked}
+use Rattle.core_seats.specs.Changes.{Extends, GainsOne, HasWorked, forked}
 use Rattle.core_seats.specs.Descending.{IsRunning, HasFinished, IsHeld}
 use Rattle.tick_jobs.specs.Writing.{Log, heard, told}
 use Rattle.core_seats.specs.Done.{InJob, through}
-use Rattle.core_seats.specs.Keeping.{State, code_in, IsSeated, LastReply, last, AtFork}
-use Rattle.core_seats.specs.Waiting.{jobs_out, HasTold, IsForked, IsGathering, IsWorking, IsWaiting, IsAtRest, IsBetween, rests}
+use Rattle.core_seats.specs.Keeping.{SchedulerState, code_in, IsSeated, LastReply, last, AtFork}
+use Rattle.core_seats.specs.Waiting.{jobs_out, HasTold, IsForked, IsGathering, IsWorking, IsWaiting, IsAtRest, RestsOrWaits, rests}
 use Rattle.core_seats.specs.Serving.{ChangesBranches, Touches}
 use Rattle.core_seats.proofs.Mails.{children_count, child_here, child_else, parent_on_child, is_child, extends_same, extends_one}
 use Rattle.tick_jobs.proofs.Lists.{by_equal, get_set, get_set_else, length_then}
@@ -43,7 +43,7 @@ use Rattle.core_seats.proofs.WaitingLemmas.{work_keeps, has_keeps}
 -- ---- the jobs of a fork were sent
 
 -- and none was replied to
-pub forked_gathering : (s : State) (h : Thread) (pairs : List Answered) → IsForked (code_in s) h → HasTold s h.number pairs (jobs_at (code_in s) h) → IsGathering s h pairs
+pub forked_gathering : (s : SchedulerState) (h : Thread) (pairs : List Answered) → IsForked (code_in s) h → HasTold s h.number pairs (jobs_at (code_in s) h) → IsGathering s h pairs
 forked_gathering s h pairs at_fork all = record {
   forked = at_fork;
   replies = [];
@@ -63,7 +63,7 @@ forked_gathering s h pairs at_fork all = record {
     none_there (suc i) r e = cc
 
 -- another thread with the same number, which stands for the same
-pub work_by : (s : State) (h : Thread) (m t : ℕ) → h.number ≡ t → t ≡ suc m → Loaded (code_in s) h → ChildIs s.mail m true → (jobs : List Job) (job : Job) → AreJobs (taken s.mail m) (jobs ++ job ∷ []) → length (answered s.mail m) + 1 ≡ length (taken s.mail m) →
+pub work_by : (s : SchedulerState) (h : Thread) (m t : ℕ) → h.number ≡ t → t ≡ suc m → Loaded (code_in s) h → ChildIs s.mail m true → (jobs : List Job) (job : Job) → AreJobs (taken s.mail m) (jobs ++ job ∷ []) → length (answered s.mail m) + 1 ≡ length (taken s.mail m) →
     (log : Log (code_in s) t jobs job) → StandsFor (code_in s) h (heard (code_in s) t jobs job log) → HasTold s t (told (code_in s) t jobs job log) [] → IsWorking s h
 work_by s h m t number at loaded child jobs job are even =
     subst (λ n. (log : Log (code_in s) n jobs job) → StandsFor (code_in s) h (heard (code_in s) n jobs job log) → HasTold s n (told (code_in s) n jobs job log) [] → IsWorking s h) number
@@ -72,12 +72,12 @@ work_by s h m t number at loaded child jobs job are even =
       told = told;
     })
 
-pub has_run : (s : State) (h0 h1 : Thread) → IsWorking s h0 → Loaded (code_in s) h1 → h1.number ≡ h0.number → ((xs : List Exchange) → StandsFor (code_in s) h0 xs → StandsFor (code_in s) h1 xs) → IsWorking s h1
+pub has_run : (s : SchedulerState) (h0 h1 : Thread) → IsWorking s h0 → Loaded (code_in s) h1 → h1.number ≡ h0.number → ((xs : List Exchange) → StandsFor (code_in s) h0 xs → StandsFor (code_in s) h1 xs) → IsWorking s h1
 has_run s h0 h1 w loaded number stands =
     let k = w.work in
     work_by s h1 k.mailbox h0.number number k.number loaded k.child k.jobs k.job k.are k.even k.log (stands (heard (code_in s) h0.number k.jobs k.job k.log) k.stands) w.told
 
-in_job_of : (s : State) (h : Thread) (w : IsWorking s h) → InJob (code_in s) h s.mail w.work.jobs w.work.job
+in_job_of : (s : SchedulerState) (h : Thread) (w : IsWorking s h) → InJob (code_in s) h s.mail w.work.jobs w.work.job
 in_job_of s h w = record { log = w.work.log; stands = w.work.stands; posts = told_posts s h.number (told (code_in s) h.number w.work.jobs w.work.job w.work.log) w.told }
 
 jobs_count : (ps : List PlainPacket) (js : List Job) → AreJobs ps js → length ps ≡ length js
@@ -86,7 +86,7 @@ jobs_count [] (j ∷ js) h = absurd h
 jobs_count (p ∷ ps) [] h = absurd h
 jobs_count (p ∷ ps) (j ∷ js) h = ap suc (jobs_count ps js h.1)
 
-module _ (s0 : State) (m : ℕ) (inside : m < length s0.mail.ends) (seated : IsSeated s0) (h : Thread) (number : h.number ≡ suc m) (w : IsWorking s0 h) where
+module _ (s0 : SchedulerState) (m : ℕ) (inside : m < length s0.mail.ends) (seated : IsSeated s0) (h : Thread) (number : h.number ≡ suc m) (w : IsWorking s0 h) where
   abbrev c : PlainCode
   c = code_in s0
 
@@ -117,14 +117,14 @@ module _ (s0 : State) (m : ℕ) (inside : m < length s0.mail.ends) (seated : IsS
     pub it_forks : IsForked c h
     it_forks = is_forked c seated.valid h w.work.loaded settled numbers s0.mail w.work.jobs w.work.job (in_job_of s0 h w)
 
-    module _ (s1 : State) (moves : ChangesBranches h.number s0 s1) (told1 : (pairs : List Answered) → HasTold s0 h.number pairs [] → HasTold s1 h.number pairs (jobs_at c h)) where
+    module _ (s1 : SchedulerState) (moves : ChangesBranches h.number s0 s1) (told1 : (pairs : List Answered) → HasTold s0 h.number pairs [] → HasTold s1 h.number pairs (jobs_at c h)) where
       abbrev ws : List Written
       ws = jobs_at c h
 
       abbrev pairs : List Answered
       pairs = told c h.number w.work.jobs w.work.job w.work.log
 
-      abbrev s1' : State
+      abbrev s1' : SchedulerState
       s1' = changed s0 s1.mail s1.seats s1.hands
 
       path1 : s1' ≡ s1
@@ -169,7 +169,7 @@ module _ (s0 : State) (m : ℕ) (inside : m < length s0.mail.ends) (seated : IsS
 
   -- ---- with a reply
 
-  module _ (done : HasReply h) (p : Packet) (room : HasRoom (of_shape c.shape) (suc m) (plain_packet p)) (kind_is : Replies_by h p.kind) (gives : (xs : List Exchange) → StandsFor c h xs → Gives c h.number xs (plain_packet p)) where
+  module _ (done : HasReply h) (p : Packet) (room : HasRoom (of_shape c.shape) (suc m) (plain_packet p)) (kind_is : RepliesByKind h p.kind) (gives : (xs : List Exchange) → StandsFor c h xs → RepliesToLast c h.number xs (plain_packet p)) where
     abbrev q : PlainPacket
     q = plain_packet p
 
@@ -191,7 +191,7 @@ module _ (s0 : State) (m : ℕ) (inside : m < length s0.mail.ends) (seated : IsS
     abbrev seat0 : Seat
     seat0 = record { thread = Some h; job = None }
 
-    abbrev pub at_end : State
+    abbrev pub at_end : SchedulerState
     at_end = record s0 { mail = record s0.mail { ends = on_child s0.mail.ends m (taker_answered q) }; seats = slice_set s0.seats (suc m) seat0 }
 
     taker : (z : Taker PlainPacket) × (child_at s0.mail.ends m ≡ Some z) × (z.holds ≡ true)
@@ -209,7 +209,7 @@ module _ (s0 : State) (m : ℕ) (inside : m < length s0.mail.ends) (seated : IsS
     looked_now : looked_by_child at_end.mail m ≡ looked_by_child s0.mail m
     looked_now = ap words_of_child child_now ∙ sym (ap words_of_child taker.1)
 
-    paused : (k : PacketKind) → Replies_by h k → plain_kind k ≡ IsPaused → HasPaused h
+    paused : (k : PacketKind) → RepliesByKind h k → plain_kind k ≡ IsPaused → HasPaused h
     paused kind.Paused r e = r
     paused kind.Blank r e = absurd r
     paused kind.Start r e = absurd r
@@ -238,10 +238,10 @@ module _ (s0 : State) (m : ℕ) (inside : m < length s0.mail.ends) (seated : IsS
           (w.told.has j (omega (arith, lt, count)) (subst (λ t. IsBranchOf c.shape t j) (sym number) is) (λ o. o));
     }
 
-    pub end_between : IsBetween at_end m
+    pub end_between : RestsOrWaits at_end m
     end_between = rests it_rests
 
-    pub end_gains : Gains (answered s0.mail m) (answered at_end.mail m)
+    pub end_gains : GainsOne (answered s0.mail m) (answered at_end.mail m)
     end_gains = record { one = q; is = answered_now }
 
     pub end_touches : Touches m s0 at_end
@@ -268,7 +268,7 @@ module _ (s0 : State) (m : ℕ) (inside : m < length s0.mail.ends) (seated : IsS
 
 -- ---- in the words of the calls
 
-module _ (s0 : State) (seated : IsSeated s0) (x : Active) (r : IsRunning s0 x) (h0 : Thread) (same : h0 ≡ x.thread) (c1 : CodeParts) (code : c1 ≡ s0.code) (h1 : Thread) (loaded : Loaded (plain_code c1) h1) (number : h1.number ≡ h0.number)
+module _ (s0 : SchedulerState) (seated : IsSeated s0) (x : Active) (r : IsRunning s0 x) (h0 : Thread) (same : h0 ≡ x.thread) (c1 : CodeParts) (code : c1 ≡ s0.code) (h1 : Thread) (loaded : Loaded (plain_code c1) h1) (number : h1.number ≡ h0.number)
     (stands : (xs : List Exchange) → StandsFor (plain_code c1) h0 xs → StandsFor (plain_code c1) h1 xs) where
   run_number : h1.number ≡ suc x.mailbox
   run_number = number ∙ ap (λ (t : Thread). t.number) same ∙ r.active.number
@@ -295,45 +295,45 @@ module _ (s0 : State) (seated : IsSeated s0) (x : Active) (r : IsRunning s0 x) (
     pub run_fork : AtFork s0 h1
     run_fork = its_fork s0 x.mailbox r.active.inside seated h1 run_number run_working settled its_numbers
 
-    module _ (s1 : State) (moves : ChangesBranches h1.number s0 s1) (told1 : (pairs : List Answered) → HasTold s0 h1.number pairs [] → HasTold s1 h1.number pairs (jobs_at (code_in s0) h1)) where
+    module _ (s1 : SchedulerState) (moves : ChangesBranches h1.number s0 s1) (told1 : (pairs : List Answered) → HasTold s0 h1.number pairs [] → HasTold s1 h1.number pairs (jobs_at (code_in s0) h1)) where
       pub run_held : IsHeld s1 (record { mailbox = x.mailbox; thread = h1; packet = x.packet })
       run_held = fork_held s0 x.mailbox r.active.inside seated h1 run_number run_working settled its_numbers s1 moves told1 x.packet r.active.room
 
       pub run_worked : HasWorked (code_in s0).shape s0.mail s1.mail x.mailbox
       run_worked = fork_worked s0 x.mailbox r.active.inside seated h1 run_number run_working settled its_numbers s1 moves told1
 
-module _ (s0 : State) (seated : IsSeated s0) (x : Active) (f : HasFinished s0 x) (h0 : Thread) (same : h0 ≡ x.thread) (c1 : CodeParts) (code : c1 ≡ s0.code) (p : Packet) (room : HasRoom (of_shape (plain_code c1).shape) h0.number (plain_packet p)) (kind_is : Replies_by h0 p.kind)
-    (gives : (xs : List Exchange) → StandsFor (plain_code c1) h0 xs → Gives (plain_code c1) h0.number xs (plain_packet p)) (s1 : State) (sitting : s1 ≡ record s0 { seats = slice_set s0.seats (x.mailbox + 1) (record { thread = Some x.thread; job = None }) }) where
+module _ (s0 : SchedulerState) (seated : IsSeated s0) (x : Active) (f : HasFinished s0 x) (h0 : Thread) (same : h0 ≡ x.thread) (c1 : CodeParts) (code : c1 ≡ s0.code) (p : Packet) (room : HasRoom (of_shape (plain_code c1).shape) h0.number (plain_packet p)) (kind_is : RepliesByKind h0 p.kind)
+    (gives : (xs : List Exchange) → StandsFor (plain_code c1) h0 xs → RepliesToLast (plain_code c1) h0.number xs (plain_packet p)) (s1 : SchedulerState) (sitting : s1 ≡ record s0 { seats = slice_set s0.seats (x.mailbox + 1) (record { thread = Some x.thread; job = None }) }) where
   its_room : HasRoom (of_shape (code_in s0).shape) (suc x.mailbox) (plain_packet p)
   its_room =
       subst (λ t. HasRoom (of_shape (code_in s0).shape) t (plain_packet p)) (ap (λ (t : Thread). t.number) same ∙ f.active.number)
       (subst (λ (z : CodeParts). HasRoom (of_shape (plain_code z).shape) h0.number (plain_packet p)) code room)
 
-  its_kind : Replies_by x.thread p.kind
-  its_kind = subst (λ t. Replies_by t p.kind) same kind_is
+  its_kind : RepliesByKind x.thread p.kind
+  its_kind = subst (λ t. RepliesByKind t p.kind) same kind_is
 
-  it_gives : (xs : List Exchange) → StandsFor (code_in s0) x.thread xs → Gives (code_in s0) x.thread.number xs (plain_packet p)
+  it_gives : (xs : List Exchange) → StandsFor (code_in s0) x.thread xs → RepliesToLast (code_in s0) x.thread.number xs (plain_packet p)
   it_gives xs st =
-      subst (λ (t : Thread). Gives (code_in s0) t.number xs (plain_packet p)) same
-      (subst (λ (z : CodeParts). Gives (plain_code z) h0.number xs (plain_packet p)) code (gives xs (subst (λ (z : CodeParts). StandsFor (plain_code z) h0 xs) (sym code) (subst (λ t. StandsFor (code_in s0) t xs) (sym same) st))))
+      subst (λ (t : Thread). RepliesToLast (code_in s0) t.number xs (plain_packet p)) same
+      (subst (λ (z : CodeParts). RepliesToLast (plain_code z) h0.number xs (plain_packet p)) code (gives xs (subst (λ (z : CodeParts). StandsFor (plain_code z) h0 xs) (sym code) (subst (λ t. StandsFor (code_in s0) t xs) (sym same) st))))
 
   sits_now : s1 ≡ record s0 { seats = slice_set s0.seats (suc x.mailbox) (record { thread = Some x.thread; job = None }) }
   sits_now = let one : x.mailbox + 1 ≡ suc x.mailbox = omega arith in sitting ∙ ap (λ n. record s0 { seats = slice_set s0.seats n (record { thread = Some x.thread; job = None }) }) one
 
   pub finish_replies : Replies (plain_code s1.mail.work.code.value) x.mailbox (taken s1.mail x.mailbox) (plain_packet p)
   finish_replies =
-      subst (λ (s : State). Replies (plain_code s.mail.work.code.value) x.mailbox (taken s.mail x.mailbox) (plain_packet p)) (sym sits_now)
+      subst (λ (s : SchedulerState). Replies (plain_code s.mail.work.code.value) x.mailbox (taken s.mail x.mailbox) (plain_packet p)) (sym sits_now)
       (its_replies s0 x.mailbox f.active.inside seated x.thread f.active.number f.working f.reply p its_room its_kind it_gives)
 
-  module _ (s2 : State) (answering : s2 ≡ record s1 { mail = after_answer x.mailbox (plain_packet p) s1.mail }) where
+  module _ (s2 : SchedulerState) (answering : s2 ≡ record s1 { mail = after_answer x.mailbox (plain_packet p) s1.mail }) where
     ends_now : s2 ≡ at_end s0 x.mailbox f.active.inside seated x.thread f.active.number f.working f.reply p its_room its_kind it_gives
-    ends_now = answering ∙ ap (λ (s : State). record s { mail = after_answer x.mailbox (plain_packet p) s.mail }) sits_now
+    ends_now = answering ∙ ap (λ (s : SchedulerState). record s { mail = after_answer x.mailbox (plain_packet p) s.mail }) sits_now
 
     pub finish_touches : Touches x.mailbox s0 s2
     finish_touches = subst (Touches x.mailbox s0) (sym ends_now) (end_touches s0 x.mailbox f.active.inside seated x.thread f.active.number f.working f.reply p its_room its_kind it_gives)
 
-    pub finish_between : IsBetween s2 x.mailbox
-    finish_between = subst (λ (s : State). IsBetween s x.mailbox) (sym ends_now) (end_between s0 x.mailbox f.active.inside seated x.thread f.active.number f.working f.reply p its_room its_kind it_gives)
+    pub finish_between : RestsOrWaits s2 x.mailbox
+    finish_between = subst (λ (s : SchedulerState). RestsOrWaits s x.mailbox) (sym ends_now) (end_between s0 x.mailbox f.active.inside seated x.thread f.active.number f.working f.reply p its_room its_kind it_gives)
 
-    pub finish_gains : Gains (answered s0.mail x.mailbox) (answered s2.mail x.mailbox)
-    finish_gains = subst (λ (s : State). Gains (answered s0.mail x.mailbox) (answered s.mail x.mailbox)) (sym ends_now) (end_gains s0 x.mailbox f.active.inside seated x.thread f.active.number f.working f.reply p its_room its_kind it_gives)
+    pub finish_gains : GainsOne (answered s0.mail x.mailbox) (answered s2.mail x.mailbox)
+    finish_gains = subst (λ (s : SchedulerState). GainsOne (answered s0.mail x.mailbox) (answered s.mail x.mailbox)) (sym ends_now) (end_gains s0 x.mailbox f.active.inside seated x.thread f.active.number f.working f.reply p its_room its_kind it_gives)

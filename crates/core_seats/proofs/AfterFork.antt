@@ -12,7 +12,7 @@ use Rattle.copy_slots.specs.Ports.{sent}
 use Rattle.core_seats.specs.Asking.{ArePaused}
 use Rattle.core_seats.specs.Posts.{Mail}
 use Rattle.core_seats.specs.Done.{Posts, InJob}
-use Rattle.core_seats.specs.Keeping.{State, code_in, IsJobFor, MayAsk, AtFork}
+use Rattle.core_seats.specs.Keeping.{SchedulerState, code_in, IsJobFor, MayAsk, AtFork}
 use Rattle.core_seats.specs.Waiting.{IsForked}
 use Rattle.tick_jobs.specs.Branches.{IsBranchOf}
 use Rattle.tick_jobs.specs.Writing.{told}
@@ -41,7 +41,7 @@ may_ask c t k m pairs posts mine (Start args values a) may = tt
 may_ask c t k m pairs posts mine (Wake values a) may = are_paused c t k m pairs posts mine may
 
 -- the job may be sent
-sends : (c : PlainCode) (t : ℕ) (m : Mail) (pairs : List Answered) → Posts c t m pairs → (w : Written) → jobs.IsJobFor c (λ b. jobs_to b pairs) t w → IsJobFor c m t w
+sends : (c : PlainCode) (t : ℕ) (m : Mail) (pairs : List Answered) → Posts c t m pairs → (w : Written) → jobs.MayTellJob c (λ b. jobs_to b pairs) t w → IsJobFor c m t w
 sends c t m pairs posts w it =
     let is = it.branch in
     record {
@@ -55,7 +55,7 @@ sends c t m pairs posts w it =
 
 -- ---- at a fork
 
-pub fork_at : (s : State) (valid : IsValidCode (code_in s)) (h : Thread) → Loaded (code_in s) h → HasSettled h 0 → h.branches.numbers ≡ map (λ w. w.branch) (jobs_at (code_in s) h) → (jobs : List Job) (job : Job) → InJob (code_in s) h s.mail jobs job → AtFork s h
+pub fork_at : (s : SchedulerState) (valid : IsValidCode (code_in s)) (h : Thread) → Loaded (code_in s) h → HasSettled h 0 → h.branches.numbers ≡ map (λ w. w.branch) (jobs_at (code_in s) h) → (jobs : List Job) (job : Job) → InJob (code_in s) h s.mail jobs job → AtFork s h
 fork_at s valid h loaded settled numbers jobs job i = record {
   loaded = loaded;
   settled = settled;

@@ -22,8 +22,8 @@ use Rattle.tick_jobs.specs.Branches.{IsBranchOf}
 use Rattle.core_seats.specs.Changes.{Extends, Grown, HasWorked, replied, forked}
 use Rattle.core_seats.specs.Descending.{IsRunning}
 use Rattle.tick_jobs.specs.Writing.{told}
-use Rattle.core_seats.specs.Keeping.{State, code_in, Alike, IsSeated}
-use Rattle.core_seats.specs.Waiting.{IsWorking, IsAtRest, IsBetween, rests}
+use Rattle.core_seats.specs.Keeping.{SchedulerState, code_in, KeepsPort, IsSeated}
+use Rattle.core_seats.specs.Waiting.{IsWorking, IsAtRest, RestsOrWaits, rests}
 use Rattle.core_seats.specs.Serving.{Touches, OnlyLooks, HasMissed}
 use Rattle.core_seats.proofs.Mails.{alike_then, children_count, child_here, child_else, parent_on_child, is_child, extends_same, extends_one, extends_then}
 use Rattle.tick_jobs.proofs.Lists.{by_equal, some_once, length_then}
@@ -36,7 +36,7 @@ use Rattle.core_seats.proofs.WaitingLemmas.{has_keeps}
 
 -- ---- one change after the other
 
-pub touches_then : (k : ℕ) (a b c : State) → Touches k a b → Touches k b c → Touches k a c
+pub touches_then : (k : ℕ) (a b c : SchedulerState) → Touches k a b → Touches k b c → Touches k a c
 touches_then k a b c h g =
     let there = λ (j : ℕ) (n : IsBranchOf (code_in a).shape (suc k) j → ⊥) (is : IsBranchOf (code_in b).shape (suc k) j). n (subst (λ x. IsBranchOf (plain_code x).shape (suc k) j) h.code is) in
     record {
@@ -52,7 +52,7 @@ touches_then k a b c h g =
       hand_count = g.hand_count ∙ h.hand_count;
     }
 
-pub touches_seated : (k : ℕ) (a b : State) → Touches k a b → IsSeated a → IsSeated b
+pub touches_seated : (k : ℕ) (a b : SchedulerState) → Touches k a b → IsSeated a → IsSeated b
 touches_seated k a b h seated = seated_by a b h.code h.places h.alike h.seat_count h.hand_count seated
 
 pub worked_from : (s : PlainShape) (a b c : Mail) (k : ℕ) → Grown a b → answered b k ≡ answered a k → HasWorked s b c k → HasWorked s a c k
@@ -61,13 +61,13 @@ worked_from s a b c k grown same (forked j is more lt) =
     let old = grown.sent j in
     let long = ap length old.is ∙ length-append (sent a j) old.more in forked j is (extends_then (sent a j) (sent b j) (sent c j) old more) (omega (arith, lt, long))
 
-module _ (s0 : State) (m : ℕ) (inside : m < length s0.mail.ends) (seated : IsSeated s0) (r : IsAtRest s0 m) where
+module _ (s0 : SchedulerState) (m : ℕ) (inside : m < length s0.mail.ends) (seated : IsSeated s0) (r : IsAtRest s0 m) where
   abbrev c : PlainCode
   c = code_in s0
 
   -- ---- there is no job
 
-  abbrev pub missed : State
+  abbrev pub missed : SchedulerState
   missed = record s0 { mail = after_take m None s0.mail }
 
   taker : (z : Taker PlainPacket) × (child_at s0.mail.ends m ≡ Some z) × (z.holds ≡ false)
@@ -88,7 +88,7 @@ module _ (s0 : State) (m : ℕ) (inside : m < length s0.mail.ends) (seated : IsS
   rests_missed : ChildIs missed.mail m false
   rests_missed = subst (λ (o : Option (Taker PlainPacket)). IsChild o false) (sym child_missed) taker.2
 
-  missed_alike : Alike s0.mail missed.mail
+  missed_alike : KeepsPort s0.mail missed.mail
   missed_alike = record { work = refl; blanks = refl; tells = refl; root = refl; count = children_count s0.mail.ends m taker_looked; stops = extends_same _ _ refl }
 
   pub only_looks : OnlyLooks m s0 missed
@@ -126,7 +126,7 @@ module _ (s0 : State) (m : ℕ) (inside : m < length s0.mail.ends) (seated : IsS
     hand_count = refl;
   }
 
-  pub missed_between : IsBetween missed m
+  pub missed_between : RestsOrWaits missed m
   missed_between = rests (record {
     idle = idle_keeps m s0 missed (record { code = refl; seat = refl; child = record { taken = taken_missed; answered = missed_answered; rests = λ _. rests_missed }; branches = λ j is. parent_on_child s0.mail.ends m j taker_looked }) r.idle;
     has = λ j lt is.
@@ -156,7 +156,7 @@ module _ (s0 : State) (m : ℕ) (inside : m < length s0.mail.ends) (seated : IsS
     abbrev empty : Seat
     empty = record { thread = None; job = None }
 
-    abbrev pub begun : State
+    abbrev pub begun : SchedulerState
     begun = at_work s0 m seated inside r.idle p asks empty
 
     pub begun_touches : Touches m s0 begun
@@ -225,26 +225,26 @@ module _ (s0 : State) (m : ℕ) (inside : m < length s0.mail.ends) (seated : IsS
 
 -- ---- in the words of the calls
 
-module _ (s0 : State) (m : ℕ) (inside : m < length s0.mail.ends) (seated : IsSeated s0) (r : IsAtRest s0 m) (p : Packet) (s1 : State) (taking : s1 ≡ record s0 { mail = after_take m (Some (plain_packet p)) s0.mail })
+module _ (s0 : SchedulerState) (m : ℕ) (inside : m < length s0.mail.ends) (seated : IsSeated s0) (r : IsAtRest s0 m) (p : Packet) (s1 : SchedulerState) (taking : s1 ≡ record s0 { mail = after_take m (Some (plain_packet p)) s0.mail })
     (job : Asks (plain_code s0.mail.work.code.value) m (taken s1.mail m)) where
   abbrev pub its_asks : Asks (code_in s0) m (taken s0.mail m ++ plain_packet p ∷ [])
   its_asks =
-      subst (Asks (code_in s0) m) (ap (λ (s : State). taken s.mail m) taking ∙ took s0.mail m (plain_packet p) r.idle.child)
+      subst (Asks (code_in s0) m) (ap (λ (s : SchedulerState). taken s.mail m) taking ∙ took s0.mail m (plain_packet p) r.idle.child)
       (subst (λ x. Asks (plain_code x) m (taken s1.mail m)) seated.work job)
 
-  module _ (x : Seat) (found : slice_get s1.seats (m + 1) ≡ Some x) (s2 : State) (rising : s2 ≡ record s1 { seats = slice_set s1.seats (m + 1) (record { thread = None; job = None }) }) where
+  module _ (x : Seat) (found : slice_get s1.seats (m + 1) ≡ Some x) (s2 : SchedulerState) (rising : s2 ≡ record s1 { seats = slice_set s1.seats (m + 1) (record { thread = None; job = None }) }) where
     pub begun_is : s2 ≡ begun s0 m inside seated r p its_asks
     begun_is =
         let one : m + 1 ≡ suc m = omega arith in
         rising
-        ∙ ap (λ (s : State). record s { seats = slice_set s.seats (m + 1) (record { thread = None; job = None }) }) taking
+        ∙ ap (λ (s : SchedulerState). record s { seats = slice_set s.seats (m + 1) (record { thread = None; job = None }) }) taking
         ∙ ap (λ n. record s0 { mail = after_take m (Some (plain_packet p)) s0.mail; seats = slice_set s0.seats n (record { thread = None; job = None }) }) one
 
     pub same_code : s2.code ≡ s0.code
-    same_code = ap (λ (s : State). s.code) begun_is
+    same_code = ap (λ (s : SchedulerState). s.code) begun_is
 
     pub same_thread : (h : Thread) → x.thread ≡ Some h → r.idle.thread ≡ h
     same_thread h is =
         let one : m + 1 ≡ suc m = omega arith in
-        let seat = some_once r.idle.sits.seat x (sym r.idle.sits.at ∙ ap (λ n. slice_get s0.seats n) (sym one) ∙ ap (λ (s : State). slice_get s.seats (m + 1)) (sym taking) ∙ found) in
+        let seat = some_once r.idle.sits.seat x (sym r.idle.sits.at ∙ ap (λ n. slice_get s0.seats n) (sym one) ∙ ap (λ (s : SchedulerState). slice_get s.seats (m + 1)) (sym taking) ∙ found) in
         some_once r.idle.thread h (sym r.idle.sits.is ∙ ap (λ (z : Seat). z.thread) seat ∙ is)

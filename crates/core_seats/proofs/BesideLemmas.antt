@@ -10,7 +10,7 @@ use Rattle.thread_code.specs.Plain.{plain_code}
 use Rattle.combine_tree.specs.declared.packet.Packet.{Packet}
 use Rattle.combine_tree.specs.Plain.{plain_packet}
 use Rattle.core_machine.specs.declared.thread.Thread.{Thread}
-use Rattle.core_machine.specs.Threads.{Loaded, StandsFor, HasSettled, HasReply, Gives}
+use Rattle.core_machine.specs.Threads.{Loaded, StandsFor, HasSettled, HasReply, RepliesToLast}
 use Rattle.core_machine.specs.Forks.{jobs_at, with_replies}
 use Rattle.copy_slots.specs.declared.view.Taker.{Taker}
 use Rattle.copy_slots.specs.Ports.{child_at, IsChild}
@@ -22,8 +22,8 @@ use Rattle.core_seats.specs.Changes.{Grown}
 use Rattle.core_seats.specs.Done.{HasDone, InJob}
 use Rattle.core_seats.specs.Ending.{HasReplied}
 use Rattle.core_seats.specs.Resting.{RootRests}
-use Rattle.core_seats.specs.Keeping.{State, code_in, IsSeated, Sits, HasPacket, HaveHeard, AtFork}
-use Rattle.core_seats.specs.Waiting.{HasTold, IsForked, IsGathering, HasReplies, HasChild, IsBetween, IsVacant, CanDescend}
+use Rattle.core_seats.specs.Keeping.{SchedulerState, code_in, IsSeated, Sits, HasPacket, HaveHeard, AtFork}
+use Rattle.core_seats.specs.Waiting.{HasTold, IsForked, IsGathering, HasReplies, HasChild, RestsOrWaits, IsVacant, CanDescend}
 use Rattle.core_seats.specs.Serving.{ChangesBranches, KeepsServing}
 use Rattle.core_seats.specs.OnJob.{IsOnJob, KeepsOthers}
 use Rattle.core_seats.specs.Rounds.{CanServe, IsSameRound}
@@ -41,7 +41,7 @@ use Rattle.core_seats.proofs.Rooted.{raw1_is, number_1, in_job1, root_replies, r
 
 -- ---- what is kept of the others
 
-pub others_same : (a : State) → KeepsOthers a a
+pub others_same : (a : SchedulerState) → KeepsOthers a a
 others_same a = record {
   code = refl;
   places = refl;
@@ -56,7 +56,7 @@ others_same a = record {
   vacant = λ j v. v;
 }
 
-pub others_then : (a b c : State) → KeepsOthers a b → KeepsOthers b c → KeepsOthers a c
+pub others_then : (a b c : SchedulerState) → KeepsOthers a b → KeepsOthers b c → KeepsOthers a c
 others_then a b c h g = record {
   code = g.code ∙ h.code;
   places = g.places ∙ h.places;
@@ -71,7 +71,7 @@ others_then a b c h g = record {
   vacant = λ j v. g.vacant j (h.vacant j v);
 }
 
-pub serving_others : (a b : State) → KeepsServing a b → KeepsOthers a b
+pub serving_others : (a b : SchedulerState) → KeepsServing a b → KeepsOthers a b
 serving_others a b k = record {
   code = k.code;
   places = k.places;
@@ -89,7 +89,7 @@ serving_others a b k = record {
 child_same : (a b : Mail) (j : ℕ) → child_at b.ends j ≡ child_at a.ends j → HasChild a j → HasChild b j
 child_same a b j e h = (h.0, subst (λ (o : Option (Taker PlainPacket)). IsChild o h.0) (sym e) h.1)
 
-pub branches_others : (a b : State) (t : ℕ) → t ≡ 0 → ChangesBranches t a b → KeepsOthers a b
+pub branches_others : (a b : SchedulerState) (t : ℕ) → t ≡ 0 → ChangesBranches t a b → KeepsOthers a b
 branches_others a b t root m = record {
   code = m.code;
   places = m.places;
@@ -104,10 +104,10 @@ branches_others a b t root m = record {
   vacant = λ j v. vacant_by a b (suc j) (ap (λ l. slice_get l (suc j)) m.seats) v;
 }
 
-pub others_seated : (a b : State) → KeepsOthers a b → IsSeated a → IsSeated b
+pub others_seated : (a b : SchedulerState) → KeepsOthers a b → IsSeated a → IsSeated b
 others_seated a b k seated = seated_by a b k.code k.places k.alike k.seat_count k.hand_count seated
 
-pub round_others : (s0 s1 : State) (a b : Round) → KeepsOthers s0 s1 → IsSameRound a b → CanServe s0 a → CanServe s1 b
+pub round_others : (s0 s1 : SchedulerState) (a b : Round) → KeepsOthers s0 s1 → IsSameRound a b → CanServe s0 a → CanServe s1 b
 round_others s0 s1 a b keeps same can = record {
   next = same.next;
   each = λ i k at.
@@ -117,7 +117,7 @@ round_others s0 s1 a b keeps same can = record {
   all = can_keep s0 s1 0 keeps.alike.count (λ j le w. keeps.between j w) (λ j le v. keeps.vacant j v) can.all;
 }
 
-pub serving_gathering : (a b : State) (h : Thread) → h.number ≡ 0 → KeepsServing a b → (pairs : List Answered) → IsGathering a h pairs → IsGathering b h pairs
+pub serving_gathering : (a b : SchedulerState) (h : Thread) → h.number ≡ 0 → KeepsServing a b → (pairs : List Answered) → IsGathering a h pairs → IsGathering b h pairs
 serving_gathering a b h root keeps pairs w =
     let own = λ (j : ℕ) (mine : IsBranchOf (code_in a).shape h.number j). subst (λ t. IsBranchOf (code_in a).shape t j) root mine in
     subst (λ x. IsGathering x h pairs) (changed_is a b keeps.code keeps.places)
@@ -126,18 +126,18 @@ serving_gathering a b h root keeps pairs w =
 -- ---- from fork to fork
 
 -- another thread with the same number, which stands for the same
-on_by : (s : State) (h : Thread) (t : ℕ) (jobs : List Job) (job : Job) → h.number ≡ t → (log : Log (code_in s) t jobs job) → StandsFor (code_in s) h (heard (code_in s) t jobs job log) → HasTold s t (told (code_in s) t jobs job log) [] → IsOnJob s h jobs job
+on_by : (s : SchedulerState) (h : Thread) (t : ℕ) (jobs : List Job) (job : Job) → h.number ≡ t → (log : Log (code_in s) t jobs job) → StandsFor (code_in s) h (heard (code_in s) t jobs job log) → HasTold s t (told (code_in s) t jobs job log) [] → IsOnJob s h jobs job
 on_by s h t jobs job number =
     subst (λ n. (log : Log (code_in s) n jobs job) → StandsFor (code_in s) h (heard (code_in s) n jobs job log) → HasTold s n (told (code_in s) n jobs job log) [] → IsOnJob s h jobs job) number
     (λ log stands told. record { log = log; stands = stands; told = told })
 
-pub on_runs : (s : State) (h h1 : Thread) (jobs : List Job) (job : Job) → h1.number ≡ h.number → ((xs : List Exchange) → StandsFor (code_in s) h xs → StandsFor (code_in s) h1 xs) → IsOnJob s h jobs job → IsOnJob s h1 jobs job
+pub on_runs : (s : SchedulerState) (h h1 : Thread) (jobs : List Job) (job : Job) → h1.number ≡ h.number → ((xs : List Exchange) → StandsFor (code_in s) h xs → StandsFor (code_in s) h1 xs) → IsOnJob s h jobs job → IsOnJob s h1 jobs job
 on_runs s h h1 jobs job number stands on = on_by s h1 h.number jobs job number on.log (stands (heard (code_in s) h.number jobs job on.log) on.stands) on.told
 
-pub on_job : (s : State) (h : Thread) (jobs : List Job) (job : Job) → IsOnJob s h jobs job → InJob (code_in s) h s.mail jobs job
+pub on_job : (s : SchedulerState) (h : Thread) (jobs : List Job) (job : Job) → IsOnJob s h jobs job → InJob (code_in s) h s.mail jobs job
 on_job s h jobs job on = record { log = on.log; stands = on.stands; posts = told_posts s h.number (told (code_in s) h.number jobs job on.log) on.told }
 
-module _ (a : State) (seated : IsSeated a) (h h1 : Thread) (loaded1 : Loaded (code_in a) h1) (number1 : h1.number ≡ h.number) (stands1 : (xs : List Exchange) → StandsFor (code_in a) h xs → StandsFor (code_in a) h1 xs) (settled : HasSettled h1 0)
+module _ (a : SchedulerState) (seated : IsSeated a) (h h1 : Thread) (loaded1 : Loaded (code_in a) h1) (number1 : h1.number ≡ h.number) (stands1 : (xs : List Exchange) → StandsFor (code_in a) h xs → StandsFor (code_in a) h1 xs) (settled : HasSettled h1 0)
     (numbers : h1.branches.numbers ≡ map (λ w. w.branch) (jobs_at (code_in a) h1)) (jobs : List Job) (job : Job) (before : IsOnJob a h jobs job) where
   pub on_now : IsOnJob a h1 jobs job
   on_now = on_runs a h h1 jobs job number1 stands1 before
@@ -155,7 +155,7 @@ module _ (a : State) (seated : IsSeated a) (h h1 : Thread) (loaded1 : Loaded (co
   forked_now = is_forked (code_in a) seated.valid h1 loaded1 settled numbers a.mail jobs job (on_job a h1 jobs job on_now)
 
   -- its branches were served, and have replied
-  module _ (d : State) (keeps : KeepsOthers a d) (all : (pairs : List Answered) → HasTold a h1.number pairs [] → HasReplies d h1 pairs) where
+  module _ (d : SchedulerState) (keeps : KeepsOthers a d) (all : (pairs : List Answered) → HasTold a h1.number pairs [] → HasReplies d h1 pairs) where
     pub replies_now : HasReplies d h1 pairs_now
     replies_now = all pairs_now told_now
 
@@ -177,11 +177,11 @@ module _ (a : State) (seated : IsSeated a) (h h1 : Thread) (loaded1 : Loaded (co
 -- ---- thread 0 out of its seat
 
 -- another thread in the seat of thread 0
-module _ (s : State) (y : Seat) where
-  abbrev reseated : State
+module _ (s : SchedulerState) (y : Seat) where
+  abbrev reseated : SchedulerState
   reseated = record s { seats = slice_set s.seats 0 y }
 
-  pub seat_between : (k : ℕ) → IsBetween s k → IsBetween reseated k
+  pub seat_between : (k : ℕ) → RestsOrWaits s k → RestsOrWaits reseated k
   seat_between k b =
       between_keeps s reseated refl refl (record { work = refl; blanks = refl; tells = refl; root = refl; count = refl; stops = extends_same _ _ refl }) k (get_set_else s.seats 0 (suc k) y (λ e. omega (arith, e))) refl (λ i mine. refl)
       (λ i mine. refl) b
@@ -197,21 +197,21 @@ module _ (s : State) (y : Seat) where
       seated_by s reseated refl refl (record { work = refl; blanks = refl; tells = refl; root = refl; count = refl; stops = extends_same _ _ refl }) (length-set s.seats 0 y) refl seated
 
 -- where each packet of its branches is its own, it is on the job
-pub job_on : (s : State) (h : Thread) → h.number ≡ 0 → ((k : ℕ) → k < length s.mail.ends → IsBranchOf (code_in s).shape 0 k → HasPacket s k) → (jobs : List Job) (job : Job) → InJob (code_in s) h s.mail jobs job → IsOnJob s h jobs job
+pub job_on : (s : SchedulerState) (h : Thread) → h.number ≡ 0 → ((k : ℕ) → k < length s.mail.ends → IsBranchOf (code_in s).shape 0 k → HasPacket s k) → (jobs : List Job) (job : Job) → InJob (code_in s) h s.mail jobs job → IsOnJob s h jobs job
 job_on s h root packets jobs job i = record {
   log = i.log;
   stands = i.stands;
   told = posts_told s h.number (told (code_in s) h.number jobs job i.log) i.posts (λ k lt mine. packets k lt (subst (λ t. IsBranchOf (code_in s).shape t k) root mine));
 }
 
-pub packets_after : (s : State) (h : Thread) → h.number ≡ 0 → (jobs : List Job) (job : Job) → IsOnJob s h jobs job → (k : ℕ) → k < length s.mail.ends → IsBranchOf (code_in s).shape 0 k → HasPacket s k
+pub packets_after : (s : SchedulerState) (h : Thread) → h.number ≡ 0 → (jobs : List Job) (job : Job) → IsOnJob s h jobs job → (k : ℕ) → k < length s.mail.ends → IsBranchOf (code_in s).shape 0 k → HasPacket s k
 packets_after s h root jobs job on k lt mine = on.told.has k lt (subst (λ t. IsBranchOf (code_in s).shape t k) (sym root) mine) (λ o. o)
 
 -- a tick's job, from thread 0's seat and back into it
-module _ (s0 : State) (seated : IsSeated s0) (root : RootRests s0) (packets : (k : ℕ) → k < length s0.mail.ends → IsBranchOf (code_in s0).shape 0 k → HasPacket s0 k) (code : CodeParts) (places : List ℕ) (mail : Mail) (seats : List Seat) (hands : List (Option Packet))
+module _ (s0 : SchedulerState) (seated : IsSeated s0) (root : RootRests s0) (packets : (k : ℕ) → k < length s0.mail.ends → IsBranchOf (code_in s0).shape 0 k → HasPacket s0 k) (code : CodeParts) (places : List ℕ) (mail : Mail) (seats : List Seat) (hands : List (Option Packet))
     (view : state code places mail seats hands ≡ s0) (x : Seat) (read : x ≡ slice_index_or seats 0 x) (found : Option Thread) (value : found ≡ x.thread) (h : Thread) (is : found ≡ Some h) (y : Seat) (p : Packet) (h1 : Thread) (number : h1.number ≡ h.number)
     (stands : (xs : List Exchange) (job : Job) → IsJob (plain_packet p) job → StandsFor (plain_code code) h xs → StandsFor (plain_code code) h1 (xs ++ record { job = job; replies = [] } ∷ [])) where
-  abbrev pub up : State
+  abbrev pub up : SchedulerState
   up = state code places mail (slice_set seats 0 y) hands
 
   up_is : up ≡ record s0 { seats = slice_set s0.seats 0 y }
@@ -223,8 +223,8 @@ module _ (s0 : State) (seated : IsSeated s0) (root : RootRests s0) (packets : (k
   pub up_seated : IsSeated up
   up_seated = subst IsSeated (sym up_is) (seat_seated s0 y seated)
 
-  pub up_each : (own : List ℕ) → ((i k : ℕ) → slice_get own i ≡ Some k → (k < length s0.mail.ends) × IsBetween s0 k) → (i k : ℕ) → slice_get own i ≡ Some k → (k < length up.mail.ends) × IsBetween up k
-  up_each own each = subst (λ s. (i k : ℕ) → slice_get own i ≡ Some k → (k < length s.mail.ends) × IsBetween s k) (sym up_is) (λ i k at. let e = each i k at in (e.0, seat_between s0 y k e.1))
+  pub up_each : (own : List ℕ) → ((i k : ℕ) → slice_get own i ≡ Some k → (k < length s0.mail.ends) × RestsOrWaits s0 k) → (i k : ℕ) → slice_get own i ≡ Some k → (k < length up.mail.ends) × RestsOrWaits up k
+  up_each own each = subst (λ s. (i k : ℕ) → slice_get own i ≡ Some k → (k < length s.mail.ends) × RestsOrWaits s k) (sym up_is) (λ i k at. let e = each i k at in (e.0, seat_between s0 y k e.1))
 
   pub up_all : CanDescend s0 0 → CanDescend up 0
   up_all can = subst (λ s. CanDescend s 0) (sym up_is) (can_keep s0 (record s0 { seats = slice_set s0.seats 0 y }) 0 refl (λ k le b. seat_between s0 y k b) (λ k le v. seat_vacant s0 y k v) can)
@@ -238,13 +238,13 @@ module _ (s0 : State) (seated : IsSeated s0) (root : RootRests s0) (packets : (k
   pub up_begun : (job : Job) → IsJob (plain_packet p) job → IsOnJob up h1 root.jobs job
   up_begun job isjob = on_up root.jobs job (in_job1 s0 seated.valid root code places mail seats hands view x read found value h is y p h1 number stands root.thread root.sits root.jobs job root.done isjob).0
 
-  module _ (s3 : State) (h2 : Thread) (root2 : h2.number ≡ 0) (loaded2 : Loaded (code_in up) h2) (replied : HasReply h2) (keeps : KeepsOthers up s3) (done3 : (jobs : List Job) (job : Job) → IsOnJob up h1 jobs job → IsOnJob s3 h2 jobs job) (code2 : CodeParts) (places2 : List ℕ) (mail2 : Mail)
-      (seats2 : List Seat) (hands2 : List (Option Packet)) (view2 : state code2 places2 mail2 seats2 hands2 ≡ s3) (p' : Packet) (gives : (xs : List Exchange) → StandsFor (plain_code code2) h2 xs → Gives (plain_code code2) h2.number xs (plain_packet p')) (z : Seat) (sits : z.thread ≡ Some h2) where
-    abbrev pub down : State
+  module _ (s3 : SchedulerState) (h2 : Thread) (root2 : h2.number ≡ 0) (loaded2 : Loaded (code_in up) h2) (replied : HasReply h2) (keeps : KeepsOthers up s3) (done3 : (jobs : List Job) (job : Job) → IsOnJob up h1 jobs job → IsOnJob s3 h2 jobs job) (code2 : CodeParts) (places2 : List ℕ) (mail2 : Mail)
+      (seats2 : List Seat) (hands2 : List (Option Packet)) (view2 : state code2 places2 mail2 seats2 hands2 ≡ s3) (p' : Packet) (gives : (xs : List Exchange) → StandsFor (plain_code code2) h2 xs → RepliesToLast (plain_code code2) h2.number xs (plain_packet p')) (z : Seat) (sits : z.thread ≡ Some h2) where
+    abbrev pub down : SchedulerState
     down = state code2 places2 mail2 (slice_set seats2 0 z) hands2
 
     down_is : down ≡ record s3 { seats = slice_set s3.seats 0 z }
-    down_is = ap (λ (s : State). record s { seats = slice_set s.seats 0 z }) view2
+    down_is = ap (λ (s : SchedulerState). record s { seats = slice_set s.seats 0 z }) view2
 
     number2 : h2.number ≡ h1.number
     number2 = root2 ∙ sym up_root
@@ -253,31 +253,31 @@ module _ (s0 : State) (seated : IsSeated s0) (root : RootRests s0) (packets : (k
     in_down jobs job i = subst (λ x. InJob (plain_code x) h2 s3.mail jobs job) keeps.code (on_job s3 h2 jobs job (done3 jobs job (on_up jobs job i)))
 
     code_0 : up.code ≡ s0.code
-    code_0 = ap (λ (s : State). s.code) up_is
+    code_0 = ap (λ (s : SchedulerState). s.code) up_is
 
     pub down_code : down.code ≡ s0.code
-    down_code = ap (λ (s : State). s.code) down_is ∙ keeps.code ∙ code_0
+    down_code = ap (λ (s : SchedulerState). s.code) down_is ∙ keeps.code ∙ code_0
 
     pub down_places : down.places ≡ s0.places
-    down_places = ap (λ (s : State). s.places) down_is ∙ keeps.places ∙ ap (λ (s : State). s.places) up_is
+    down_places = ap (λ (s : SchedulerState). s.places) down_is ∙ keeps.places ∙ ap (λ (s : SchedulerState). s.places) up_is
 
     pub down_keeper : down.mail.root ≡ s0.mail.root
-    down_keeper = ap (λ (s : State). s.mail.root) down_is ∙ keeps.alike.root ∙ ap (λ (s : State). s.mail.root) up_is
+    down_keeper = ap (λ (s : SchedulerState). s.mail.root) down_is ∙ keeps.alike.root ∙ ap (λ (s : SchedulerState). s.mail.root) up_is
 
     pub down_grown : Grown s0.mail down.mail
-    down_grown = subst (λ (m : Mail). Grown m down.mail) (ap (λ (s : State). s.mail) up_is) (subst (λ (m : Mail). Grown up.mail m) (sym (ap (λ (s : State). s.mail) down_is)) keeps.grown)
+    down_grown = subst (λ (m : Mail). Grown m down.mail) (ap (λ (s : SchedulerState). s.mail) up_is) (subst (λ (m : Mail). Grown up.mail m) (sym (ap (λ (s : SchedulerState). s.mail) down_is)) keeps.grown)
 
     pub down_seated : IsSeated down
     down_seated = subst IsSeated (sym down_is) (seat_seated s3 z (others_seated up s3 keeps up_seated))
 
     pub down_here : (k : ℕ) → HasChild s0.mail k → HasChild down.mail k
-    down_here k c = subst (λ (s : State). HasChild s.mail k) (sym down_is) (keeps.here k (subst (λ (s : State). HasChild s.mail k) (sym up_is) c))
+    down_here k c = subst (λ (s : SchedulerState). HasChild s.mail k) (sym down_is) (keeps.here k (subst (λ (s : SchedulerState). HasChild s.mail k) (sym up_is) c))
 
     pub down_was_here : (k : ℕ) → HasChild down.mail k → HasChild s0.mail k
-    down_was_here k c = subst (λ (s : State). HasChild s.mail k) up_is (keeps.was_here k (subst (λ (s : State). HasChild s.mail k) down_is c))
+    down_was_here k c = subst (λ (s : SchedulerState). HasChild s.mail k) up_is (keeps.was_here k (subst (λ (s : SchedulerState). HasChild s.mail k) down_is c))
 
-    pub down_between : (k : ℕ) → IsBetween s0 k → IsBetween down k
-    down_between k b = subst (λ s. IsBetween s k) (sym down_is) (seat_between s3 z k (keeps.between k (subst (λ s. IsBetween s k) (sym up_is) (seat_between s0 y k b))))
+    pub down_between : (k : ℕ) → RestsOrWaits s0 k → RestsOrWaits down k
+    down_between k b = subst (λ s. RestsOrWaits s k) (sym down_is) (seat_between s3 z k (keeps.between k (subst (λ s. RestsOrWaits s k) (sym up_is) (seat_between s0 y k b))))
 
     pub down_vacant : (k : ℕ) → IsVacant s0 (suc k) → IsVacant down (suc k)
     down_vacant k v = subst (λ s. IsVacant s (suc k)) (sym down_is) (seat_vacant s3 z k (keeps.vacant k (subst (λ s. IsVacant s (suc k)) (sym up_is) (seat_vacant s0 y k v))))
@@ -286,7 +286,7 @@ module _ (s0 : State) (seated : IsSeated s0) (root : RootRests s0) (packets : (k
     down_packets job isjob k lt mine =
         let at = packets_after s3 h2 root2 root.jobs job (done3 root.jobs job (up_begun job isjob)) in
         subst (λ s. HasPacket s k) (sym down_is)
-        (seat_packet s3 z k (at k (subst (λ (s : State). k < length s.mail.ends) down_is lt) (subst (λ x. IsBranchOf (plain_code x).shape 0 k) (sym (keeps.code ∙ code_0)) mine)))
+        (seat_packet s3 z k (at k (subst (λ (s : SchedulerState). k < length s.mail.ends) down_is lt) (subst (λ x. IsBranchOf (plain_code x).shape 0 k) (sym (keeps.code ∙ code_0)) mine)))
 
     pub down_replied : (t u : Thread) (jobs : List Job) (job : Job) → Sits s0 0 t → Sits down 0 u → HasDone (code_in s0) t s0.mail jobs → IsJob (plain_packet p) job → HasReplied down u (jobs ++ job ∷ []) (plain_packet p')
     down_replied =

@@ -15,7 +15,7 @@ use Rattle.tick_jobs.specs.Branches.{IsBranchOf}
 use Rattle.core_seats.specs.Changes.{Extends}
 use Rattle.core_seats.specs.Calling.{ServesFork, HasSentMore, HasCalled, IsCalling, HasServedFork}
 use Rattle.core_seats.specs.Descending.{Descends}
-use Rattle.core_seats.specs.Keeping.{State, code_in, IsSeated, HasPacket, LacksPacket, IsJobFor, AtFork, CanSend, HasHeard}
+use Rattle.core_seats.specs.Keeping.{SchedulerState, code_in, IsSeated, HasPacket, LacksPacket, IsJobFor, AtFork, CanSend, HasHeard}
 use Rattle.core_seats.specs.Moving.{ChangesPacket, HasSent, HasGot, HasLooked}
 use Rattle.core_seats.specs.OnJob.{KeepsOthers}
 use Rattle.core_seats.specs.Serving.{ChangesBranches}
@@ -40,10 +40,10 @@ apart_bools e = cc
 
 -- ---- what stays
 
-pub stays_same : (t : ℕ) (a : State) → ServesFork t a a
+pub stays_same : (t : ℕ) (a : SchedulerState) → ServesFork t a a
 stays_same t a = record { leaves = leaves_same t t a; seat = refl; here = λ j h. h; was_here = λ j h. h; between = λ j le x. x; vacant = λ j le v. v }
 
-pub stays_then : (t : ℕ) (a b c : State) → ServesFork t a b → ServesFork t b c → ServesFork t a c
+pub stays_then : (t : ℕ) (a b c : SchedulerState) → ServesFork t a b → ServesFork t b c → ServesFork t a c
 stays_then t a b c h g = record {
   leaves = leaves_then t t a b c h.leaves g.leaves;
   seat = g.seat ∙ h.seat;
@@ -53,7 +53,7 @@ stays_then t a b c h g = record {
   vacant = λ j le x. g.vacant j le (h.vacant j le x);
 }
 
-pub branches_stay : (t : ℕ) (a b : State) → ChangesBranches t a b → ServesFork t a b
+pub branches_stay : (t : ℕ) (a b : SchedulerState) → ChangesBranches t a b → ServesFork t a b
 branches_stay t a b moves = record {
   leaves = record {
     code = moves.code;
@@ -77,7 +77,7 @@ branches_stay t a b moves = record {
     other : (k p : ℕ) → IsBranchOf (code_in a).shape p k → p < t → IsBranchOf (code_in a).shape t k → ⊥
     other k p mine lt is = let same = parent_once (code_in a) p t k mine is in omega (arith, same, lt)
 
-pub down_stays : (t m : ℕ) (a b : State) → t ≤ m → Descends m m a b → ServesFork t a b
+pub down_stays : (t m : ℕ) (a b : SchedulerState) → t ≤ m → Descends m m a b → ServesFork t a b
 down_stays t m a b le d =
     let all = descends_less m t t a b le d in
     record {
@@ -89,7 +89,7 @@ down_stays t m a b le d =
       vacant = all.vacant;
     }
 
-pub stays_descends : (m t : ℕ) (a b : State) → t ≡ suc m → ServesFork t a b → Descends m (suc m) a b
+pub stays_descends : (m t : ℕ) (a b : SchedulerState) → t ≡ suc m → ServesFork t a b → Descends m (suc m) a b
 stays_descends m t a b at s = record {
   leaves = leaves_less t t (suc m) m a b (omega (arith, at)) (omega (arith, at)) s.leaves;
   here = s.here;
@@ -98,7 +98,7 @@ stays_descends m t a b at s = record {
   vacant = λ j le v. s.vacant j (omega (arith, le, at)) v;
 }
 
-pub stays_others : (t : ℕ) (a b : State) → t ≡ 0 → ServesFork t a b → KeepsOthers a b
+pub stays_others : (t : ℕ) (a b : SchedulerState) → t ≡ 0 → ServesFork t a b → KeepsOthers a b
 stays_others t a b root s = record {
   code = s.leaves.code;
   places = s.leaves.places;
@@ -113,10 +113,10 @@ stays_others t a b root s = record {
   vacant = λ j v. s.vacant j (omega (arith, root)) v;
 }
 
-pub stays_seated : (t : ℕ) (a b : State) → ServesFork t a b → IsSeated a → IsSeated b
+pub stays_seated : (t : ℕ) (a b : SchedulerState) → ServesFork t a b → IsSeated a → IsSeated b
 stays_seated t a b s seated = seated_keeps t t a b s.leaves seated
 
-pub stays_can : (t : ℕ) (a b : State) → ServesFork t a b → CanDescend a t → CanDescend b t
+pub stays_can : (t : ℕ) (a b : SchedulerState) → ServesFork t a b → CanDescend a t → CanDescend b t
 stays_can t a b s can = can_keep a b t s.leaves.alike.count s.between s.vacant can
 
 -- ---- lists
@@ -152,14 +152,14 @@ out_of b (w ∷ ws) (suc n) o = inr (out_of b ws n o)
 -- ---- one branch after the other
 
 -- the first k branches were told their jobs; each is served before the next one is told its job for as long as `replied` is true
-pub record CallsFirst (a b : State) (h : Thread) (k : ℕ) (replied : Bool) : Type 0 where
+pub record CallsFirst (a b : SchedulerState) (h : Thread) (k : ℕ) (replied : Bool) : Type 0 where
   pub within : k ≤ length h.branches.numbers
   pub stays : ServesFork h.number a b
   pub calling : (pairs : List Answered) → HasTold a h.number pairs [] → IsCalling b h pairs k replied
   pub rest : (i : ℕ) (w : Written) → k ≤ i → slice_get (jobs_at (code_in a) h) i ≡ Some w → IsJobFor (code_in a) b.mail h.number w
   pub sent : 0 < k → HasSentMore (code_in a).shape h.number a.mail b.mail
 
-pub called_none : (a : State) (h : Thread) (replied : Bool) → AtFork a h → CallsFirst a a h 0 replied
+pub called_none : (a : SchedulerState) (h : Thread) (replied : Bool) → AtFork a h → CallsFirst a a h 0 replied
 called_none a h replied fork = record {
   within = omega arith;
   stays = stays_same h.number a;
@@ -181,9 +181,9 @@ called_none a h replied fork = record {
 
 -- ---- a state with the same code
 
-module _ (s : State) (mail : Mail) (seats : List Seat) (hands : List (Option Packet)) (h : Thread) (m k : ℕ) (mine : IsBranchOf (code_in s).shape h.number m) (moves : ChangesPacket m s (changed s mail seats hands)) (w : Written) (at : slice_get (jobs_at (code_in s) h) k ≡ Some w)
+module _ (s : SchedulerState) (mail : Mail) (seats : List Seat) (hands : List (Option Packet)) (h : Thread) (m k : ℕ) (mine : IsBranchOf (code_in s).shape h.number m) (moves : ChangesPacket m s (changed s mail seats hands)) (w : Written) (at : slice_get (jobs_at (code_in s) h) k ≡ Some w)
     (is : w.branch ≡ suc m) (before : (i n j : ℕ) → i < k → slice_get h.branches.numbers i ≡ Some n → n ≡ suc j → j ≢ m) (pairs : List Answered) where
-  abbrev s' : State
+  abbrev s' : SchedulerState
   s' = changed s mail seats hands
 
   abbrev ws : List Written
@@ -258,7 +258,7 @@ module _ (s : State) (mail : Mail) (seats : List Seat) (hands : List (Option Pac
           record { replies = c.replies ++ r ∷ []; within = omega (arith, n, next); all = λ e. omega (arith, n, next); heard = heard_all; told = told_now }
 
 -- threads above the branch were served
-module _ (s c : State) (h : Thread) (m k : ℕ) (forked : IsForked (code_in s) h) (up : h.number ≤ m) (d : Descends m m s c) (pairs : List Answered) (x : IsCalling s h pairs k false) where
+module _ (s c : SchedulerState) (h : Thread) (m k : ℕ) (forked : IsForked (code_in s) h) (up : h.number ≤ m) (d : Descends m m s c) (pairs : List Answered) (x : IsCalling s h pairs k false) where
   parents : (j : ℕ) → IsBranchOf (code_in s).shape h.number j → parent_at c.mail.ends j ≡ parent_at s.mail.ends j
   parents j mine = d.leaves.parents j h.number mine (omega (arith, up))
 
@@ -281,24 +281,24 @@ module _ (s c : State) (h : Thread) (m k : ℕ) (forked : IsForked (code_in s) h
 pub extends_long : {A : Type 0} (before after : List A) → Extends before after → length before ≤ length after
 extends_long before after e = let n = ap length e.is ∙ length-append before e.more in omega (arith, n)
 
-pub calls_by : (a b c : State) (h : Thread) (k : ℕ) (r q : Bool) → c ≡ b → q ≡ r → CallsFirst a b h k r → CallsFirst a c h k q
+pub calls_by : (a b c : SchedulerState) (h : Thread) (k : ℕ) (r q : Bool) → c ≡ b → q ≡ r → CallsFirst a b h k r → CallsFirst a c h k q
 calls_by a b c h k r q state replied done = subst (λ z. CallsFirst a z h k q) (sym state) (subst (CallsFirst a b h k) (sym replied) done)
 
 -- ---- one branch is called
 
 -- a mailbox can be served, with the threads from its own on
-pub record CanServeAt (s : State) (m : ℕ) : Type 0 where
+pub record CanServeAt (s : SchedulerState) (m : ℕ) : Type 0 where
   pub inside : m < length s.mail.ends
   pub seated : IsSeated s
   pub above : CanDescend s m
 
 -- its reply can be looked for
-pub record CanLookAt (s : State) (m : ℕ) : Type 0 where
+pub record CanLookAt (s : SchedulerState) (m : ℕ) : Type 0 where
   pub inside : m < length s.mail.ends
   pub seated : IsSeated s
   pub lacks : LacksPacket s m
 
-module _ (a s1 : State) (h : Thread) (k m : ℕ) (seated : IsSeated a) (can : CanSend a h k m) (mine : IsBranchOf (code_in a).shape h.number m) (above : CanDescend a m) (moves : ChangesPacket m a s1)
+module _ (a s1 : SchedulerState) (h : Thread) (k m : ℕ) (seated : IsSeated a) (can : CanSend a h k m) (mine : IsBranchOf (code_in a).shape h.number m) (above : CanDescend a m) (moves : ChangesPacket m a s1)
     (sent_now : (w : Written) → slice_get (jobs_at (code_in a) h) k ≡ Some w → HasSent a s1 m w.job) where
   up_to : h.number < suc m
   up_to = branch_above (code_in a) seated.valid h.number m (let lt = can.inside in let n = seated.mailboxes in omega (arith, lt, n)) mine
@@ -317,7 +317,7 @@ module _ (a s1 : State) (h : Thread) (k m : ℕ) (seated : IsSeated a) (can : Ca
         above = can_keep a s1 m count (λ j le x. between_moves a s1 h.number first_moves j (λ e. omega (arith, e, le, up)) x) (λ j le v. vacant_by a s1 (suc j) (ap (λ l. slice_get l (suc j)) moves.seats) v) above;
       }
 
-  pub served_at : (s2 : State) → Descends m m s1 s2 → LacksPacket s1 m → CanLookAt s2 m
+  pub served_at : (s2 : SchedulerState) → Descends m m s1 s2 → LacksPacket s1 m → CanLookAt s2 m
   served_at s2 d lacks =
       let lt = told_at.inside in
       let count = d.leaves.alike.count in
@@ -330,7 +330,7 @@ module _ (a s1 : State) (h : Thread) (k m : ℕ) (seated : IsSeated a) (can : Ca
 
 -- ---- one more
 
-module _ (a b : State) (h : Thread) (k number : ℕ) (seated : IsSeated a) (fork : AtFork a h) (forked : IsForked (code_in a) h) (some : (pairs : List Answered) × HasTold a h.number pairs []) (replied : Bool) (done : CallsFirst a b h k replied)
+module _ (a b : SchedulerState) (h : Thread) (k number : ℕ) (seated : IsSeated a) (fork : AtFork a h) (forked : IsForked (code_in a) h) (some : (pairs : List Answered) × HasTold a h.number pairs []) (replied : Bool) (done : CallsFirst a b h k replied)
     (at : slice_get h.branches.numbers k ≡ Some number) where
   abbrev pub m : ℕ
   m = number - 1
@@ -420,7 +420,7 @@ module _ (a b : State) (h : Thread) (k number : ℕ) (seated : IsSeated a) (fork
   mine_a = subst (λ x. IsBranchOf (plain_code x).shape h.number m) code mine
 
   -- what was sent through the later mailboxes stays
-  rest_next : (c : State) → ((j : ℕ) → IsBranchOf (code_in b).shape h.number j → j ≢ m → sent c.mail j ≡ sent b.mail j) → (i : ℕ) (w : Written) → k + 1 ≤ i → slice_get (jobs_at (code_in a) h) i ≡ Some w → IsJobFor (code_in a) c.mail h.number w
+  rest_next : (c : SchedulerState) → ((j : ℕ) → IsBranchOf (code_in b).shape h.number j → j ≢ m → sent c.mail j ≡ sent b.mail j) → (i : ℕ) (w : Written) → k + 1 ≤ i → slice_get (jobs_at (code_in a) h) i ≡ Some w → IsJobFor (code_in a) c.mail h.number w
   rest_next c same i w le at' =
       let it = done.rest i w (omega (arith, le)) at' in
       record {
@@ -433,7 +433,7 @@ module _ (a b : State) (h : Thread) (k number : ℕ) (seated : IsSeated a) (fork
             (same it.mailbox (subst (λ x. IsBranchOf (plain_code x).shape h.number it.mailbox) (sym code) it.mine) (apart a b code seated_b h k number fork done.rest at i it.mailbox w (omega (arith, le)) at' it.branch)) it.may;
       }
 
-  module _ (s1 : State) (moves : ChangesPacket m b s1) (lacks : LacksPacket s1 m) (sent_now : (w : Written) → slice_get (jobs_at (code_in b) h) k ≡ Some w → HasSent b s1 m w.job) where
+  module _ (s1 : SchedulerState) (moves : ChangesPacket m b s1) (lacks : LacksPacket s1 m) (sent_now : (w : Written) → slice_get (jobs_at (code_in b) h) k ≡ Some w → HasSent b s1 m w.job) where
     path1 : changed b s1.mail s1.seats s1.hands ≡ s1
     path1 = changed_is b s1 moves.code moves.places
 
@@ -451,7 +451,7 @@ module _ (a b : State) (h : Thread) (k number : ℕ) (seated : IsSeated a) (fork
         subst (λ x. (c' : IsCalling x h pairs (suc k) false) × (length c'.replies ≡ length c.replies)) path1
         (told_next b s1.mail s1.seats s1.hands h m k mine (subst (ChangesPacket m b) (sym path1) moves) the_job.0 job_b (the_job.2 ∙ number_is) before pairs replied c (subst (λ x. HasSent b x m the_job.0.job) (sym path1) sent1) (subst (λ x. LacksPacket x m) (sym path1) lacks))
 
-    more : (c : State) → Extends (sent s1.mail m) (sent c.mail m) → HasSentMore (code_in a).shape h.number a.mail c.mail
+    more : (c : SchedulerState) → Extends (sent s1.mail m) (sent c.mail m) → HasSentMore (code_in a).shape h.number a.mail c.mail
     more c e =
         let first = extends_long _ _ (done.stays.leaves.grown.sent m) in
         let here = ap length sent1.sent ∙ length-append (sent b.mail m) (sent1.packet ∷ []) in
@@ -469,7 +469,7 @@ module _ (a b : State) (h : Thread) (k number : ℕ) (seated : IsSeated a) (fork
     }
 
     -- it was served, and its reply was looked for
-    module _ (s2 s3 : State) (serves : Descends m m s1 s2) (looks : ChangesPacket m s2 s3) (result : Bool) (heard : result ≡ true → HasGot s2 s3 m) (missed : result ≡ false → HasLooked s2 s3 m) (going : replied ≡ true) where
+    module _ (s2 s3 : SchedulerState) (serves : Descends m m s1 s2) (looks : ChangesPacket m s2 s3) (result : Bool) (heard : result ≡ true → HasGot s2 s3 m) (missed : result ≡ false → HasLooked s2 s3 m) (going : replied ≡ true) where
       path3 : changed s2 s3.mail s3.seats s3.hands ≡ s3
       path3 = changed_is s2 s3 looks.code looks.places
 
@@ -526,12 +526,12 @@ module _ (a b : State) (h : Thread) (k number : ℕ) (seated : IsSeated a) (fork
         sent = λ lt. more s3 (extends_then _ _ _ (serves.leaves.grown.sent m) (grows result refl).0);
       }
 
-  pub called_more : (s3 : State) (result : Bool) → HasCalled b s3 h k m result → replied ≡ true → CallsFirst a s3 h (k + 1) result
+  pub called_more : (s3 : SchedulerState) (result : Bool) → HasCalled b s3 h k m result → replied ≡ true → CallsFirst a s3 h (k + 1) result
   called_more s3 result c going = called_first c.told c.sends c.lacks c.job c.served s3 c.serves c.looks result c.got c.missed going
 
 -- ---- all were told
 
-pub served_all : (a b : State) (h : Thread) (k : ℕ) (replied : Bool) → IsForked (code_in a) h → CallsFirst a b h k replied → length h.branches.numbers ≤ k → HasServedFork a b h replied
+pub served_all : (a b : SchedulerState) (h : Thread) (k : ℕ) (replied : Bool) → IsForked (code_in a) h → CallsFirst a b h k replied → length h.branches.numbers ≤ k → HasServedFork a b h replied
 served_all a b h k replied forked done past =
     let le = done.within in
     let same : k ≡ length h.branches.numbers = omega (arith, le, past) in

@@ -16,7 +16,7 @@ use Rattle.core_seats.specs.Asking.{ArePaused}
 use Rattle.core_seats.specs.Posts.{Mail}
 use Rattle.tick_jobs.specs.Branches.{IsBranchOf}
 use Rattle.core_seats.specs.Done.{Posts}
-use Rattle.core_seats.specs.Keeping.{State, code_in, Leaves, IsSeated, IsFitted, HasPacket, LacksPacket, Quiet, QuietAbove, IsCalled, IsBack, MayAsk, IsJobFor, AtFork, CanSend, HasHeard, HaveHeard}
+use Rattle.core_seats.specs.Keeping.{SchedulerState, code_in, KeepsBelow, IsSeated, IsFitted, HasPacket, LacksPacket, Quiet, QuietAbove, IsCalled, IsBack, MayAsk, IsJobFor, AtFork, CanSend, HasHeard, HaveHeard}
 use Rattle.core_seats.specs.Moving.{ChangesPacket, HasSent, HasGot}
 use Rattle.core_seats.specs.ChildrenRun.{Consulted}
 use Rattle.tick_jobs.proofs.Lists.{some_once, at_map}
@@ -26,7 +26,7 @@ use Rattle.core_seats.proofs.Send.{called_now, quiet_now}
 use Rattle.core_seats.proofs.RunChildren.{all_leaves, quiet_all, parent_else, hand_else, its_reply, heard_now, posts_now}
 use Rattle.tick_jobs.proofs.Pairs.{pairs_more, no_pairs}
 
-pub consulted_none : (a : State) (h : Thread) → AtFork a h → QuietAbove a h.number → Consulted a a h 0
+pub consulted_none : (a : SchedulerState) (h : Thread) → AtFork a h → QuietAbove a h.number → Consulted a a h 0
 consulted_none a h fork above = record {
   within = omega arith;
   leaves = leaves_same h.number h.number a;
@@ -47,7 +47,7 @@ may_keeps c m m' k (Start args values a) e h = tt
 may_keeps c m m' k (Wake values a) e h = subst (ArePaused c k) (sym e) h
 
 -- the next branch
-module _ (a b : State) (h : Thread) (k number : ℕ) (fitted : IsFitted a) (fork : AtFork a h) (done : Consulted a b h k) (at : slice_get h.branches.numbers k ≡ Some number) where
+module _ (a b : SchedulerState) (h : Thread) (k number : ℕ) (fitted : IsFitted a) (fork : AtFork a h) (done : Consulted a b h k) (at : slice_get h.branches.numbers k ≡ Some number) where
   c : PlainCode
   c = code_in a
 
@@ -108,7 +108,7 @@ module _ (a b : State) (h : Thread) (k number : ℕ) (fitted : IsFitted a) (fork
   pub some_packet : HasPacket b m
   some_packet = quiet_m.packet
 
-  module _ (s1 : State) (sending : ChangesPacket m b s1) where
+  module _ (s1 : SchedulerState) (sending : ChangesPacket m b s1) where
     pub is_called : LacksPacket s1 m → ((w : Written) → slice_get (jobs_at (code_in b) h) k ≡ Some w → HasSent b s1 m w.job) → IsCalled s1 m
     is_called lacks sent = called_now b s1 m fitted_b.seated inside_m quiet_m sending lacks can_send.job.job (sent can_send.job can_send.at)
 
@@ -119,7 +119,7 @@ module _ (a b : State) (h : Thread) (k number : ℕ) (fitted : IsFitted a) (fork
         (λ own. let same = parent_once (code_in b) (suc j) h.number m own mine_b in absurd (omega (arith, same, from, above_m)))
         (done.above j (omega (arith, from, above_m)) (omega (arith, lt, count)))
 
-    module _ (s2 s3 : State) (sent_now : (w : Written) → slice_get (jobs_at (code_in b) h) k ≡ Some w → HasSent b s1 m w.job) (working : Leaves (suc m) m s1 s2) (above_now : QuietAbove s2 (suc m))
+    module _ (s2 s3 : SchedulerState) (sent_now : (w : Written) → slice_get (jobs_at (code_in b) h) k ≡ Some w → HasSent b s1 m w.job) (working : KeepsBelow (suc m) m s1 s2) (above_now : QuietAbove s2 (suc m))
         (back : IsBack s2 m) (getting : ChangesPacket m s2 s3) (got_now : HasGot s2 s3 m) where
       sent1 : HasSent b s1 m job.0.job
       sent1 = sent_now job.0 (subst (λ x. slice_get (jobs_at (plain_code x) h) k ≡ Some job.0) (sym done.leaves.code) job.1)
@@ -133,10 +133,10 @@ module _ (a b : State) (h : Thread) (k number : ℕ) (fitted : IsFitted a) (fork
       abbrev r : Reply
       r = its_reply b s1 s2 s3 h.number m fitted_b inside_m mine_b above_m job.0.job done.above sending sent1 working above_now getting its_quiet got_now
 
-      leaves_b : Leaves h.number h.number b s3
+      leaves_b : KeepsBelow h.number h.number b s3
       leaves_b = all_leaves b s1 s2 s3 h.number m fitted_b inside_m mine_b above_m job.0.job done.above sending sent1 working above_now getting its_quiet got_now
 
-      leaves_a : Leaves h.number h.number a s3
+      leaves_a : KeepsBelow h.number h.number a s3
       leaves_a = leaves_then h.number h.number a b s3 done.leaves leaves_b
 
       -- a branch with another number
@@ -224,5 +224,5 @@ module _ (a b : State) (h : Thread) (k number : ℕ) (fitted : IsFitted a) (fork
             };
       }
 
-pub have_heard : (a b : State) (h : Thread) (k : ℕ) (done : Consulted a b h k) → length h.branches.numbers ≤ k → HaveHeard b h.branches.numbers done.replies
+pub have_heard : (a b : SchedulerState) (h : Thread) (k : ℕ) (done : Consulted a b h k) → length h.branches.numbers ≤ k → HaveHeard b h.branches.numbers done.replies
 have_heard a b h k done le = record { count = omega (arith, done.count, done.within, le); each = done.heard }

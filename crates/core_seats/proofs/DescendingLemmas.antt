@@ -17,13 +17,13 @@ use Rattle.core_seats.specs.declared.active.Active.{Active}
 use Rattle.core_seats.specs.declared.round.Round.{Round}
 use Rattle.core_seats.specs.Posts.{Mail}
 use Rattle.tick_jobs.specs.Branches.{IsBranchOf}
-use Rattle.core_seats.specs.Changes.{Grown, Gains, HasProgressed, answered_more}
+use Rattle.core_seats.specs.Changes.{Grown, GainsOne, HasProgressed, answered_more}
 use Rattle.core_seats.specs.Descending.{Descends, IsActive, IsRunning, HasFinished, IsHeld, KeepsRound}
-use Rattle.core_seats.specs.Keeping.{State, code_in, IsSeated, Leaves, Quiet}
+use Rattle.core_seats.specs.Keeping.{SchedulerState, code_in, IsSeated, KeepsBelow, Quiet}
 use Rattle.core_seats.specs.OnJob.{KeepsOthers}
 use Rattle.core_seats.specs.Rounds.{IsSameRound}
 use Rattle.core_seats.specs.Serving.{Touches, OnlyLooks, KeepsServing}
-use Rattle.core_seats.specs.Waiting.{HasChild, IsFor, IsForked, IsGathering, IsAtWork, IsWorking, IsWaiting, IsBetween, IsVacant, CanDescend}
+use Rattle.core_seats.specs.Waiting.{HasChild, IsFor, IsForked, IsGathering, IsAtWork, IsWorking, IsWaiting, RestsOrWaits, IsVacant, CanDescend}
 use Rattle.tick_jobs.proofs.Lists.{by_equal, at_map}
 use Rattle.core_seats.proofs.KeepingLemmas.{leaves_same, leaves_then, leaves_less, seated_keeps}
 use Rattle.tick_jobs.proofs.Branching.{parent_once}
@@ -42,10 +42,10 @@ never e = absurd (apart e)
 
 -- ---- what stays
 
-pub descends_same : (t from : ℕ) (a : State) → Descends t from a a
+pub descends_same : (t from : ℕ) (a : SchedulerState) → Descends t from a a
 descends_same t from a = record { leaves = leaves_same (suc t) t a; here = λ j h. h; was_here = λ j h. h; between = λ j le b. b; vacant = λ j le v. v }
 
-pub descends_then : (t from : ℕ) (a b c : State) → Descends t from a b → Descends t from b c → Descends t from a c
+pub descends_then : (t from : ℕ) (a b c : SchedulerState) → Descends t from a b → Descends t from b c → Descends t from a c
 descends_then t from a b c h g = record {
   leaves = leaves_then (suc t) t a b c h.leaves g.leaves;
   here = λ j x. g.here j (h.here j x);
@@ -55,7 +55,7 @@ descends_then t from a b c h g = record {
 }
 
 -- served above m, a lower thread's others stay, too
-pub descends_less : (m t from : ℕ) (a b : State) → t ≤ m → Descends m m a b → Descends t from a b
+pub descends_less : (m t from : ℕ) (a b : SchedulerState) → t ≤ m → Descends m m a b → Descends t from a b
 descends_less m t from a b le d = record {
   leaves = leaves_less (suc m) m (suc t) t a b (omega (arith, le)) le d.leaves;
   here = d.here;
@@ -70,24 +70,24 @@ descends_less m t from a b le d = record {
 }
 
 -- and thread m + 1 too
-pub descends_whole : (m : ℕ) (a b : State) → IsBetween a m → IsBetween b m → Descends m (suc m) a b → Descends m m a b
+pub descends_whole : (m : ℕ) (a b : SchedulerState) → RestsOrWaits a m → RestsOrWaits b m → Descends m (suc m) a b → Descends m m a b
 descends_whole m a b before after d = record {
   leaves = d.leaves;
   here = d.here;
   was_here = d.was_here;
-  between = λ j le x. by_equal j m (λ n. d.between j (omega (arith, le, n)) x) (λ e. subst (IsBetween b) (sym e) after);
+  between = λ j le x. by_equal j m (λ n. d.between j (omega (arith, le, n)) x) (λ e. subst (RestsOrWaits b) (sym e) after);
   vacant = λ j le x. by_equal j m (λ n. d.vacant j (omega (arith, le, n)) x) (λ e. absurd (not_vacant a m before (subst (λ i. IsVacant a (suc i)) e x)));
 }
 
-pub descends_seated : (t from : ℕ) (a b : State) → Descends t from a b → IsSeated a → IsSeated b
+pub descends_seated : (t from : ℕ) (a b : SchedulerState) → Descends t from a b → IsSeated a → IsSeated b
 descends_seated t from a b d seated = seated_keeps (suc t) t a b d.leaves seated
 
-pub descends_can : (t from u : ℕ) (a b : State) → from ≤ u → Descends t from a b → CanDescend a u → CanDescend b u
+pub descends_can : (t from u : ℕ) (a b : SchedulerState) → from ≤ u → Descends t from a b → CanDescend a u → CanDescend b u
 descends_can t from u a b le d can = can_keep a b u d.leaves.alike.count (λ j up x. d.between j (omega (arith, le, up)) x) (λ j up x. d.vacant j (omega (arith, le, up)) x) can
 
 -- ---- steps
 
-pub touches_descends : (m : ℕ) (a b : State) → HasChild a.mail m → HasChild b.mail m → Touches m a b → Descends m (suc m) a b
+pub touches_descends : (m : ℕ) (a b : SchedulerState) → HasChild a.mail m → HasChild b.mail m → Touches m a b → Descends m (suc m) a b
 touches_descends m a b before after t = record {
   leaves = record {
     code = t.code;
@@ -112,8 +112,8 @@ touches_descends m a b before after t = record {
 
 -- ---- a thread in hand
 
-module _ (t u : ℕ) (a b : State) (l : Leaves (suc t) u a b) (h : Thread) (number : h.number ≡ t) where
-  abbrev b' : State
+module _ (t u : ℕ) (a b : SchedulerState) (l : KeepsBelow (suc t) u a b) (h : Thread) (number : h.number ≡ t) where
+  abbrev b' : SchedulerState
   b' = changed a b.mail b.seats b.hands
 
   path : b' ≡ b
@@ -133,7 +133,7 @@ branch_at c h k n f at =
 
 -- ---- what is kept of the others
 
-pub descends_others : (a b : State) → Descends 0 0 a b → KeepsOthers a b
+pub descends_others : (a b : SchedulerState) → Descends 0 0 a b → KeepsOthers a b
 descends_others a b d = record {
   code = d.leaves.code;
   places = d.leaves.places;
@@ -148,7 +148,7 @@ descends_others a b d = record {
   vacant = λ j v. d.vacant j (omega arith) v;
 }
 
-pub keeps_down : (m : ℕ) (a b : State) → m < length a.mail.ends → Descends m m a b → (a.mail.tells ≡ true → Quiet a m → OnlyLooks m a b) → KeepsServing a b
+pub keeps_down : (m : ℕ) (a b : SchedulerState) → m < length a.mail.ends → Descends m m a b → (a.mail.tells ≡ true → Quiet a m → OnlyLooks m a b) → KeepsServing a b
 keeps_down m a b inside d looks =
     let all = descends_less m 0 0 a b (omega arith) d in
     record {
@@ -180,28 +180,28 @@ pub kept_round : (a b : Round) → a.next ≤ length a.own.items → KeepsRound 
 kept_round a b within k = round_moved a b within k.own k.next k.rope
 
 -- earlier forks
-pub sent_since : (a b c : State) (m t from : ℕ) → Descends t from a b → HasProgressed (code_in b).shape b.mail c.mail m → HasProgressed (code_in a).shape a.mail c.mail m
+pub sent_since : (a b c : SchedulerState) (m t from : ℕ) → Descends t from a b → HasProgressed (code_in b).shape b.mail c.mail m → HasProgressed (code_in a).shape a.mail c.mail m
 sent_since a b c m t from d p = progress_from (code_in a).shape a.mail b.mail c.mail m d.leaves.grown (subst (λ (x : CodeParts). HasProgressed (plain_code x).shape b.mail c.mail m) d.leaves.code p)
 
 -- ---- out of its seat, and back
 
 -- its end is there while it is at work
-pub child_at_work : (s : State) (h : Thread) (m : ℕ) → h.number ≡ suc m → IsAtWork s h → HasChild s.mail m
+pub child_at_work : (s : SchedulerState) (h : Thread) (m : ℕ) → h.number ≡ suc m → IsAtWork s h → HasChild s.mail m
 child_at_work s h m number w =
     let n = w.number in
     let same : w.mailbox ≡ m = omega (arith, n, number) in (true, subst (λ i. ChildIs s.mail i true) same w.child)
 
-pub gains_more : (c : PlainCode) (a b e : Mail) (m : ℕ) → Grown a b → Gains (answered b m) (answered e m) → HasProgressed c.shape a e m
+pub gains_more : (c : PlainCode) (a b e : Mail) (m : ℕ) → Grown a b → GainsOne (answered b m) (answered e m) → HasProgressed c.shape a e m
 gains_more c a b e m grown g = progress_from c.shape a b e m grown (answered_more (let long = ap length g.is ∙ length-append (answered b m) (g.one ∷ []) in omega (arith, long)))
 
-module _ (s : State) (x : Active) (r : IsRunning s x) (h0 : Thread) (same : h0 ≡ x.thread) where
+module _ (s : SchedulerState) (x : Active) (r : IsRunning s x) (h0 : Thread) (same : h0 ≡ x.thread) where
   pub starts : IsWorking s h0
   starts = subst (IsWorking s) (sym same) r.working
 
   pub starts_at : h0.number ≡ suc x.mailbox
   starts_at = ap (λ (t : Thread). t.number) same ∙ r.active.number
 
-  module _ (h1 : Thread) (number : h1.number ≡ h0.number) (s1 : State) (d : Descends x.mailbox (suc x.mailbox) s s1) where
+  module _ (h1 : Thread) (number : h1.number ≡ h0.number) (s1 : SchedulerState) (d : Descends x.mailbox (suc x.mailbox) s s1) where
     abbrev y : Active
     y = record { mailbox = x.mailbox; thread = h1; packet = x.packet }
 
@@ -222,24 +222,24 @@ module _ (s : State) (x : Active) (r : IsRunning s x) (h0 : Thread) (same : h0 �
     pub held_on : IsWaiting s1 h1 → IsHeld s1 y
     held_on w = record { active = stays w.work.loaded; waiting = w }
 
-    pub back_descends : (s2 : State) → Touches x.mailbox s1 s2 → IsBetween s2 x.mailbox → IsAtWork s1 h1 → Descends x.mailbox (suc x.mailbox) s s2
+    pub back_descends : (s2 : SchedulerState) → Touches x.mailbox s1 s2 → RestsOrWaits s2 x.mailbox → IsAtWork s1 h1 → Descends x.mailbox (suc x.mailbox) s s2
     back_descends s2 t after w =
         descends_then x.mailbox (suc x.mailbox) s s1 s2 d (touches_descends x.mailbox s1 s2 (child_at_work s1 h1 x.mailbox (number ∙ starts_at) w) (between_child s2 x.mailbox after) t)
 
 -- taken up, and served
-module _ (a : State) (m : ℕ) (before : IsBetween a m) (b : State) (t : Touches m a b) (x : Active) (e : x.mailbox ≡ m) (r : IsRunning b x) where
+module _ (a : SchedulerState) (m : ℕ) (before : RestsOrWaits a m) (b : SchedulerState) (t : Touches m a b) (x : Active) (e : x.mailbox ≡ m) (r : IsRunning b x) where
   pub taken_up : Descends m (suc m) a b
   taken_up = touches_descends m a b (between_child a m before) (child_at_work b x.thread m (r.active.number ∙ ap suc e) r.working.work) t
 
   pub taken_can : CanDescend a (suc m) → CanDescend b (suc x.mailbox)
   taken_can can = subst (λ k. CanDescend b (suc k)) (sym e) (descends_can m (suc m) (suc m) a b (omega arith) taken_up can)
 
-  module _ (d : State) (down : Descends x.mailbox (suc x.mailbox) b d) where
-    pub served_whole : IsBetween d x.mailbox → Descends m m a d
-    served_whole after = descends_whole m a d before (subst (IsBetween d) e after) (descends_then m (suc m) a b d taken_up (subst (λ k. Descends k (suc k) b d) e down))
+  module _ (d : SchedulerState) (down : Descends x.mailbox (suc x.mailbox) b d) where
+    pub served_whole : RestsOrWaits d x.mailbox → Descends m m a d
+    served_whole after = descends_whole m a d before (subst (RestsOrWaits d) e after) (descends_then m (suc m) a b d taken_up (subst (λ k. Descends k (suc k) b d) e down))
 
     pub served_worked : HasProgressed (code_in b).shape b.mail d.mail x.mailbox → HasProgressed (code_in a).shape a.mail d.mail m
     served_worked p = sent_since a b d m m (suc m) taken_up (subst (λ k. HasProgressed (code_in b).shape b.mail d.mail k) e p)
 
-pub not_taken : (a : State) (m : ℕ) (b : State) → IsBetween a m → Touches m a b → IsBetween b m → Descends m m a b
+pub not_taken : (a : SchedulerState) (m : ℕ) (b : SchedulerState) → RestsOrWaits a m → Touches m a b → RestsOrWaits b m → Descends m m a b
 not_taken a m b before t after = descends_whole m a b before after (touches_descends m a b (between_child a m before) (between_child b m after) t)

@@ -2,17 +2,17 @@
 use Rattle.std.proofs.Common.{◌≡◌, ℕ, zero, suc, ◌+◌, ◌*◌, ◌<◌, ◌≤◌, ◌^◌, List, [], ◌++◌, map, length, refl, sym, ap, ◌∙◌, subst, arith}
 use Rattle.forec_kernel.specs.Engine.{Job, allowance_of, Reply, Exchange, Answered, pair_up}
 use Rattle.thread_code.specs.Plain.{PlainCode, plain_code}
-use Rattle.thread_code.specs.Alone.{block_of, units_of}
+use Rattle.thread_code.specs.Alone.{block_of, machine_units}
 use Rattle.core_machine.specs.declared.thread.Thread.{Thread}
 use Rattle.core_machine.specs.declared.thread.Event.{Event}
 use Rattle.core_machine.specs.declared.thread.Event.TheVariants as event
-use Rattle.core_machine.specs.Threads.{Loaded, StandsFor, HasSettled, HasReply, Left_by}
+use Rattle.core_machine.specs.Threads.{Loaded, StandsFor, HasSettled, HasReply, LeftByEvent}
 use Rattle.core_machine.specs.Forks.{jobs_at, with_replies}
 use Rattle.tick_jobs.proofs.Forks.{times_grow}
 use Rattle.core_seats.specs.Posts.{Mail}
 use Rattle.core_seats.specs.Done.{Posts, InJob, through}
 use Rattle.tick_jobs.specs.Writing.{heard, told}
-use Rattle.core_seats.specs.Keeping.{State, code_in, IsFitted, Leaves, AtFork, HaveHeard}
+use Rattle.core_seats.specs.Keeping.{SchedulerState, code_in, IsFitted, KeepsBelow, AtFork, HaveHeard}
 use Rattle.core_seats.proofs.KeepingLemmas.{fitted_keeps}
 use Rattle.tick_jobs.proofs.Logs.{allowance_in}
 use Rattle.core_seats.proofs.AfterFork.{fork_at}
@@ -29,7 +29,7 @@ job_runs c h h1 m jobs job n number stands i =
 pub allowance_is : (c : PlainCode) (h : Thread) (m : Mail) (jobs : List Job) (job : Job) → InJob c h m jobs job → h.allowance ≡ allowance_of job
 allowance_is c h m jobs job i = allowance_in c h i.log.exchanges job i.log.before (heard c h.number jobs job i.log) i.stands refl
 
-module _ (a b : State) (fitted : IsFitted a) (h0 h h1 : Thread) (number : h.number ≡ h0.number) (leaves : Leaves h0.number h0.number a b) (loaded1 : Loaded (code_in b) h1) (number1 : h1.number ≡ h.number)
+module _ (a b : SchedulerState) (fitted : IsFitted a) (h0 h h1 : Thread) (number : h.number ≡ h0.number) (leaves : KeepsBelow h0.number h0.number a b) (loaded1 : Loaded (code_in b) h1) (number1 : h1.number ≡ h.number)
     (stands1 : (xs : List Exchange) → StandsFor (code_in b) h xs → StandsFor (code_in b) h1 xs) (settled : HasSettled h1 0) (numbers : h1.branches.numbers ≡ map (λ w. w.branch) (jobs_at (code_in b) h1)) (jobs : List Job) (job : Job) (n : ℕ)
     (i : Counted (code_in a) h b.mail jobs job n) where
   fitted_b : IsFitted b
@@ -53,11 +53,11 @@ module _ (a b : State) (fitted : IsFitted a) (h0 h h1 : Thread) (number : h.numb
       let at = inside (code_in b) fitted_b.seated.valid h1 loaded1 settled numbers jobs job now.0.log now.0.stands in
       let first = forks_bound (code_in b) fitted_b.seated.valid h1 loaded1 settled numbers jobs job now.0.log now.0.stands in
       let steps = length (block_of (code_in a) h0.number).steps in
-      let named = subst (λ l. length now.0.log.before + 1 ≤ (l + 2) * units_of at.machine + (l + 1)) same_steps first in
-      let more = times_grow (steps + 2) (units_of at.machine) h0.allowance (omega (arith, within, at.allowance, allow)) in
+      let named = subst (λ l. length now.0.log.before + 1 ≤ (l + 2) * machine_units at.machine + (l + 1)) same_steps first in
+      let more = times_grow (steps + 2) (machine_units at.machine) h0.allowance (omega (arith, within, at.allowance, allow)) in
       omega (arith, named, now.1, more)
 
-  module _ (b' : State) (leaves' : Leaves h1.number h1.number b b') (rs : List Reply) (heard_all : HaveHeard b' h1.branches.numbers rs)
+  module _ (b' : SchedulerState) (leaves' : KeepsBelow h1.number h1.number b b') (rs : List Reply) (heard_all : HaveHeard b' h1.branches.numbers rs)
       (posts : (pairs : List Answered) → Posts (code_in b) h1.number b.mail pairs → Posts (code_in b) h1.number b'.mail (pairs ++ pair_up (jobs_at (code_in b) h1) rs)) (h2 h3 : Thread) (number2 : h2.number ≡ h1.number) (number3 : h3.number ≡ h2.number)
       (settles : (xs : List Exchange) → StandsFor (code_in b') h1 (with_replies xs []) → StandsFor (code_in b') h2 (with_replies xs rs))
       (joins : (xs : List Exchange) → StandsFor (code_in b') h2 (with_replies xs rs) → StandsFor (code_in b') h3 (with_replies xs rs)) where

@@ -14,7 +14,7 @@ use Rattle.core_seats.specs.declared.seat.Seat.{Seat}
 use Rattle.core_seats.specs.Posts.{Mail}
 use Rattle.tick_jobs.specs.Branches.{IsBranchOf}
 use Rattle.core_seats.specs.Changes.{Extends, Awaits}
-use Rattle.core_seats.specs.Keeping.{State, code_in, IsSeated, LacksPacket, HasHeard, HaveHeard}
+use Rattle.core_seats.specs.Keeping.{SchedulerState, code_in, IsSeated, LacksPacket, HasHeard, HaveHeard}
 use Rattle.core_seats.specs.Moving.{ChangesPacket, HasGot, HasLooked}
 use Rattle.core_seats.specs.Waiting.{IsOut, HasTold, IsFor, IsGathering, HasReplies}
 use Rattle.core_seats.specs.Serving.{ChangesBranches}
@@ -49,8 +49,8 @@ out_dropped b (w ∷ ws) (suc k) h =
 
 -- ---- a state with the same code
 
-module _ (s : State) (mail : Mail) (seats : List Seat) (hands : List (Option Packet)) (h : Thread) (m : ℕ) (mine : IsBranchOf (code_in s).shape h.number m) (moves : ChangesPacket m s (changed s mail seats hands)) where
-  abbrev s' : State
+module _ (s : SchedulerState) (mail : Mail) (seats : List Seat) (hands : List (Option Packet)) (h : Thread) (m : ℕ) (mine : IsBranchOf (code_in s).shape h.number m) (moves : ChangesPacket m s (changed s mail seats hands)) where
+  abbrev s' : SchedulerState
   s' = changed s mail seats hands
 
   abbrev ws : List Written
@@ -142,7 +142,7 @@ module _ (s : State) (mail : Mail) (seats : List Seat) (hands : List (Option Pac
       pub waits_on : IsGathering s' h pairs
       waits_on = record { forked = w.forked; replies = rs; gathered = record { within = w.gathered.within; heard = kept; told = told_same } }
 
-same_moves : (s : State) (m : ℕ) → ChangesPacket m s s
+same_moves : (s : SchedulerState) (m : ℕ) → ChangesPacket m s s
 same_moves s m = record {
   code = refl;
   places = refl;
@@ -158,19 +158,19 @@ same_moves s m = record {
 -- ---- one branch after the other
 
 -- the replies of the first k branches are in hand
-pub record HasSome (s : State) (h : Thread) (pairs : List Answered) (k : ℕ) : Type 0 where
+pub record HasSome (s : SchedulerState) (h : Thread) (pairs : List Answered) (k : ℕ) : Type 0 where
   pub gathering : IsGathering s h pairs
   pub reached : k ≤ length gathering.replies
 
-pub record HasGotFirst (a b : State) (h : Thread) (k : ℕ) : Type 0 where
+pub record HasGotFirst (a b : SchedulerState) (h : Thread) (k : ℕ) : Type 0 where
   pub within : k ≤ length h.branches.numbers
   pub moves : ChangesBranches h.number a b
   pub some : (pairs : List Answered) → IsGathering a h pairs → HasSome b h pairs k
 
-pub got_none : (a : State) (h : Thread) → HasGotFirst a a h 0
+pub got_none : (a : SchedulerState) (h : Thread) → HasGotFirst a a h 0
 got_none a h = record { within = omega arith; moves = branches_same h.number a; some = λ pairs w. record { gathering = w; reached = omega arith } }
 
-module _ (a b : State) (h : Thread) (k number : ℕ) (seated : IsSeated a) (moves_b : ChangesBranches h.number a b) (at : slice_get h.branches.numbers k ≡ Some number) (pairs : List Answered) (have : HasSome b h pairs k) where
+module _ (a b : SchedulerState) (h : Thread) (k number : ℕ) (seated : IsSeated a) (moves_b : ChangesBranches h.number a b) (at : slice_get h.branches.numbers k ≡ Some number) (pairs : List Answered) (have : HasSome b h pairs k) where
   abbrev w : IsGathering b h pairs
   w = have.gathering
 
@@ -233,7 +233,7 @@ module _ (a b : State) (h : Thread) (k number : ℕ) (seated : IsSeated a) (move
       full : (p : Packet) → Some (Some p) ≡ Some None → ⊥
       full p e = cc
 
-  module _ (s1 : State) (moves : ChangesPacket m b s1) where
+  module _ (s1 : SchedulerState) (moves : ChangesPacket m b s1) where
     path : changed b s1.mail s1.seats s1.hands ≡ s1
     path = changed_is b s1 moves.code moves.places
 
@@ -281,7 +281,7 @@ module _ (a b : State) (h : Thread) (k number : ℕ) (seated : IsSeated a) (move
 -- ---- one branch more
 
 -- beside some pairs it was at the fork to begin with
-pub got_more : (a b s1 : State) (h : Thread) (k number : ℕ) → IsSeated a → HasGotFirst a b h k → slice_get h.branches.numbers k ≡ Some number → (pairs : List Answered) × IsGathering a h pairs → ChangesPacket (number - 1) b s1 →
+pub got_more : (a b s1 : SchedulerState) (h : Thread) (k number : ℕ) → IsSeated a → HasGotFirst a b h k → slice_get h.branches.numbers k ≡ Some number → (pairs : List Answered) × IsGathering a h pairs → ChangesPacket (number - 1) b s1 →
     ((p : Packet) → slice_get b.hands (number - 1) ≡ Some (Some p) → s1 ≡ b) → (slice_get b.hands (number - 1) ≡ Some None → HasGot b s1 (number - 1)) → HasGotFirst a s1 h (k + 1)
 got_more a b s1 h k number seated done at it moves before there = record {
   within = let lt = slice_get_within h.branches.numbers k number at in omega (arith, lt);
@@ -291,9 +291,9 @@ got_more a b s1 h k number seated done at it moves before there = record {
 
 -- ---- all replies are in hand
 
-pub has_all : (a b : State) (h : Thread) (k : ℕ) → HasGotFirst a b h k → length h.branches.numbers ≤ k → (pairs : List Answered) → IsGathering a h pairs → HasReplies b h pairs
+pub has_all : (a b : SchedulerState) (h : Thread) (k : ℕ) → HasGotFirst a b h k → length h.branches.numbers ≤ k → (pairs : List Answered) → IsGathering a h pairs → HasReplies b h pairs
 has_all a b h k done past pairs w =
     let s = done.some pairs w in record { gathering = s.gathering; all = let x = s.gathering.gathered.within in let r = s.reached in omega (arith, x, r, past) }
 
-pub all_heard : (s : State) (h : Thread) (pairs : List Answered) (r : HasReplies s h pairs) → HaveHeard s h.branches.numbers r.gathering.replies
+pub all_heard : (s : SchedulerState) (h : Thread) (pairs : List Answered) (r : HasReplies s h pairs) → HaveHeard s h.branches.numbers r.gathering.replies
 all_heard s h pairs r = record { count = r.all; each = r.gathering.gathered.heard }

@@ -10,7 +10,7 @@ use Rattle.core_seats.specs.Calling.{HasServedFork}
 use Rattle.core_seats.specs.Changes.{HasProgressed, sent_more}
 use Rattle.tick_jobs.specs.Writing.{told}
 use Rattle.core_seats.specs.Descending.{Descends}
-use Rattle.core_seats.specs.Keeping.{State, code_in, IsSeated, AtFork, HaveHeard}
+use Rattle.core_seats.specs.Keeping.{SchedulerState, code_in, IsSeated, AtFork, HaveHeard}
 use Rattle.tick_jobs.specs.Branches.{IsBranchOf}
 use Rattle.core_seats.specs.Serving.{ChangesBranches}
 use Rattle.core_seats.specs.Waiting.{HasTold, IsForked, IsGathering, HasReplies, IsAtWork, IsWorking, IsWaiting}
@@ -25,7 +25,7 @@ use Rattle.core_seats.proofs.CallingLemmas.{stays_then, branches_stay, down_stay
 -- ---- a fork is served
 
 -- those that had to wait were served once more, and the replies looked for
-module _ (a b c d : State) (h : Thread) (going : Bool) (first : HasServedFork a b h going) (serves : Descends h.number h.number b c) (moves : ChangesBranches h.number c d) (replied : Bool)
+module _ (a b c d : SchedulerState) (h : Thread) (going : Bool) (first : HasServedFork a b h going) (serves : Descends h.number h.number b c) (moves : ChangesBranches h.number c d) (replied : Bool)
     (still : replied ≡ false → (pairs : List Answered) → IsGathering c h pairs → IsGathering d h pairs) (all : replied ≡ true → (pairs : List Answered) → IsGathering c h pairs → HasReplies d h pairs) where
   gathering_c : (pairs : List Answered) → HasTold a h.number pairs [] → IsGathering c h pairs
   gathering_c pairs told = leaves_gathering h.number h.number b c serves.leaves h refl pairs (first.gathering pairs told)
@@ -46,15 +46,15 @@ module _ (a b c d : State) (h : Thread) (going : Bool) (first : HasServedFork a 
         record { mailbox = s.mailbox; mine = s.mine; more = omega (arith, more, later) };
   }
 
-pub gathers_there : (a b : State) (h : Thread) (going : Bool) → HasServedFork a b h going → (pairs : List Answered) × HasTold a h.number pairs [] → (pairs : List Answered) × IsGathering b h pairs
+pub gathers_there : (a b : SchedulerState) (h : Thread) (going : Bool) → HasServedFork a b h going → (pairs : List Answered) × HasTold a h.number pairs [] → (pairs : List Answered) × IsGathering b h pairs
 gathers_there a b h going s some = (some.0, s.gathering some.0 some.1)
 
-pub gathers_still : (b c : State) (h : Thread) → Descends h.number h.number b c → (pairs : List Answered) × IsGathering b h pairs → (pairs : List Answered) × IsGathering c h pairs
+pub gathers_still : (b c : SchedulerState) (h : Thread) → Descends h.number h.number b c → (pairs : List Answered) × IsGathering b h pairs → (pairs : List Answered) × IsGathering c h pairs
 gathers_still b c h serves some = (some.0, leaves_gathering h.number h.number b c serves.leaves h refl some.0 some.1)
 
 -- ---- from fork to fork
 
-module _ (s : State) (m : ℕ) (seated : IsSeated s) (h h1 : Thread) (number : h.number ≡ suc m) (w : IsWorking s h) (c1 : CodeParts) (code : c1 ≡ s.code) (loaded1 : Loaded (plain_code c1) h1) (number1 : h1.number ≡ h.number)
+module _ (s : SchedulerState) (m : ℕ) (seated : IsSeated s) (h h1 : Thread) (number : h.number ≡ suc m) (w : IsWorking s h) (c1 : CodeParts) (code : c1 ≡ s.code) (loaded1 : Loaded (plain_code c1) h1) (number1 : h1.number ≡ h.number)
     (stands1 : (xs : List Exchange) → StandsFor (plain_code c1) h xs → StandsFor (plain_code c1) h1 xs) where
   inside : m < length s.mail.ends
   inside =
@@ -86,8 +86,8 @@ module _ (s : State) (m : ℕ) (seated : IsSeated s) (h h1 : Thread) (number : h
     told_so_far = (pairs, runs.told)
 
     -- its branches were served
-    module _ (s1 : State) (replied : Bool) (served : HasServedFork s s1 h1 replied) where
-      abbrev s1' : State
+    module _ (s1 : SchedulerState) (replied : Bool) (served : HasServedFork s s1 h1 replied) where
+      abbrev s1' : SchedulerState
       s1' = changed s s1.mail s1.seats s1.hands
 
       path1 : s1' ≡ s1

@@ -9,7 +9,7 @@ use Rattle.combine_tree.specs.declared.packet.PacketKind.{PacketKind}
 use Rattle.combine_tree.specs.declared.packet.PacketKind.TheVariants as kind
 use Rattle.combine_tree.specs.Plain.{plain_kind, plain_packet}
 use Rattle.core_machine.specs.Forks.{IsReplyKind}
-use Rattle.core_seats.specs.Keeping.{State, HasHeard, HaveHeard}
+use Rattle.core_seats.specs.Keeping.{SchedulerState, HasHeard, HaveHeard}
 use Rattle.tick_jobs.proofs.Lists.{some_once}
 
 pub reply_kind : (q : PacketKind) (p : Packet) (r : Reply) → q ≡ p.kind → IsReply (plain_packet p) r → IsReplyKind q
@@ -30,7 +30,7 @@ reply_kind kind.Ended p r e is = tt
 reply_kind (kind.Trapped place trap) p r e is = tt
 reply_kind kind.Over p r e is = tt
 
-module _ (s : State) (branches : List ℕ) (rs : List Reply) (heard : HaveHeard s branches rs) (k b : ℕ) (at : slice_get branches k ≡ Some b) where
+module _ (s : SchedulerState) (branches : List ℕ) (rs : List Reply) (heard : HaveHeard s branches rs) (k b : ℕ) (at : slice_get branches k ≡ Some b) where
   pub reply_at : (r : Reply) × (slice_get rs k ≡ Some r)
   reply_at =
       let lt = slice_get_within branches k b at in (get_or rs k WasOver, slice_get-get_or rs k WasOver (omega (arith, lt, heard.count)))

@@ -5,19 +5,19 @@ use Rattle.std.proofs.lemmas.List.{length-set}
 use Rattle.core_seats.specs.declared.active.Active.{Active}
 use Rattle.core_seats.specs.declared.seat.Seat.{Seat}
 use Rattle.core_seats.specs.Descending.{IsHeld}
-use Rattle.core_seats.specs.Keeping.{State, IsSeated}
-use Rattle.core_seats.specs.Waiting.{IsBetween, waits}
+use Rattle.core_seats.specs.Keeping.{SchedulerState, IsSeated}
+use Rattle.core_seats.specs.Waiting.{RestsOrWaits, waits}
 use Rattle.core_seats.specs.Serving.{Touches}
 use Rattle.core_seats.proofs.Mails.{extends_same}
 use Rattle.tick_jobs.proofs.Lists.{get_set, get_set_else}
 use Rattle.core_seats.proofs.KeepingLemmas.{grown_same}
 use Rattle.core_seats.proofs.WaitingLemmas.{waiting_keeps}
 
-module _ (s : State) (seated : IsSeated s) (x : Active) (held : IsHeld s x) (s1 : State) (sitting : s1 ≡ record s { seats = slice_set s.seats (x.mailbox + 1) (record { thread = Some x.thread; job = Some x.packet }) }) where
+module _ (s : SchedulerState) (seated : IsSeated s) (x : Active) (held : IsHeld s x) (s1 : SchedulerState) (sitting : s1 ≡ record s { seats = slice_set s.seats (x.mailbox + 1) (record { thread = Some x.thread; job = Some x.packet }) }) where
   abbrev seat : Seat
   seat = record { thread = Some x.thread; job = Some x.packet }
 
-  abbrev put : State
+  abbrev put : SchedulerState
   put = record s { seats = slice_set s.seats (x.mailbox + 1) seat }
 
   one : x.mailbox + 1 ≡ suc x.mailbox
@@ -29,9 +29,9 @@ module _ (s : State) (seated : IsSeated s) (x : Active) (held : IsHeld s x) (s1 
       let mailboxes = seated.mailboxes in
       let seats = seated.seats in omega (arith, inside, mailboxes, seats)
 
-  pub hold_between : IsBetween s1 x.mailbox
+  pub hold_between : RestsOrWaits s1 x.mailbox
   hold_between =
-      subst (λ z. IsBetween z x.mailbox) (sym sitting) (waits (record {
+      subst (λ z. RestsOrWaits z x.mailbox) (sym sitting) (waits (record {
         thread = x.thread;
         sits = record { seat = seat; at = ap (λ n. slice_get put.seats n) (sym one) ∙ get_set s.seats (x.mailbox + 1) seat in_seats; is = refl; loaded = held.active.loaded; number = held.active.number };
         packet = x.packet;

@@ -19,7 +19,7 @@ use Rattle.core_seats.specs.Posts.{Mail, AreReplies}
 use Rattle.tick_jobs.specs.Branches.{IsBranchOf, replies_to}
 use Rattle.core_seats.specs.Changes.{Extends, Grown}
 use Rattle.core_seats.specs.Done.{Posts, HasDone}
-use Rattle.core_seats.specs.Keeping.{State, code_in, Alike, Leaves, IsSeated, IsFitted, LastReply, Idle, Ready, blank, reply, HasPacket, Quiet}
+use Rattle.core_seats.specs.Keeping.{SchedulerState, code_in, KeepsPort, KeepsBelow, IsSeated, IsFitted, LastReply, Idle, IsPacketOfParent, blank, reply, HasPacket, Quiet}
 use Rattle.core_seats.specs.Moving.{ChangesPacket}
 use Rattle.core_seats.proofs.Mails.{alike_then, extends_same, extends_then}
 use Rattle.tick_jobs.proofs.Lists.{by_equal}
@@ -58,18 +58,18 @@ pub record SameChild (k : ℕ) (a b : Mail) : Type 0 where
 pub same_child : (k : ℕ) (a b : Mail) → child_at b.ends k ≡ child_at a.ends k → SameChild k a b
 same_child k a b e = record { taken = ap taken_by e; answered = ap answered_by e; rests = subst (λ (o : Option (Taker PlainPacket)). IsChild o false) (sym e) }
 
-pub record SameThread (k : ℕ) (a b : State) : Type 0 where
+pub record SameThread (k : ℕ) (a b : SchedulerState) : Type 0 where
   pub code : b.code ≡ a.code
   pub seat : slice_get b.seats (suc k) ≡ slice_get a.seats (suc k)
   pub child : SameChild k a.mail b.mail
   pub branches : (j : ℕ) → IsBranchOf (code_in a).shape (suc k) j → parent_at b.mail.ends j ≡ parent_at a.mail.ends j
 
-pub record SameParent (k : ℕ) (a b : State) : Type 0 where
+pub record SameParent (k : ℕ) (a b : SchedulerState) : Type 0 where
   pub parent : parent_at b.mail.ends k ≡ parent_at a.mail.ends k
   pub hand : slice_get b.hands k ≡ slice_get a.hands k
   pub blanks : b.mail.blanks ≡ a.mail.blanks
 
-pub idle_keeps : (k : ℕ) (a b : State) → SameThread k a b → Idle a k → Idle b k
+pub idle_keeps : (k : ℕ) (a b : SchedulerState) → SameThread k a b → Idle a k → Idle b k
 idle_keeps k a b s i =
     let same_taken = s.child.taken in
     let number = i.sits.number in
@@ -93,7 +93,7 @@ idle_keeps k a b s i =
       even = ap length s.child.answered ∙ i.even ∙ ap length (sym same_taken);
     }
 
-ready_keeps : (k : ℕ) (a b : State) → b.code ≡ a.code → SameParent k a b → (h : Option Packet) → Ready a k h → Ready b k h
+ready_keeps : (k : ℕ) (a b : SchedulerState) → b.code ≡ a.code → SameParent k a b → (h : Option Packet) → IsPacketOfParent a k h → IsPacketOfParent b k h
 ready_keeps k a b code s h (blank fresh q at room) =
     blank (subst (λ (o : Option (Sender PlainPacket)). IsParent o Fresh) (sym s.parent) fresh) q (ap (λ l. slice_get l k) s.blanks ∙ at)
     (subst (λ x. HasRoom (of_shape (plain_code x).shape) (suc k) q) (sym code) room)
@@ -101,10 +101,10 @@ ready_keeps k a b code s h (reply held p room) =
     reply (subst (λ (o : Option (Sender PlainPacket)). IsParent o Held) (sym s.parent) held) p
     (subst (λ x. HasRoom (of_shape (plain_code x).shape) (suc k) (plain_packet p)) (sym code) room)
 
-pub packet_keeps : (k : ℕ) (a b : State) → b.code ≡ a.code → SameParent k a b → HasPacket a k → HasPacket b k
+pub packet_keeps : (k : ℕ) (a b : SchedulerState) → b.code ≡ a.code → SameParent k a b → HasPacket a k → HasPacket b k
 packet_keeps k a b code s h = record { hand = h.hand; at = s.hand ∙ h.at; ready = ready_keeps k a b code s h.hand h.ready }
 
-pub quiet_keeps : (k : ℕ) (a b : State) → SameThread k a b → SameParent k a b → Quiet a k → Quiet b k
+pub quiet_keeps : (k : ℕ) (a b : SchedulerState) → SameThread k a b → SameParent k a b → Quiet a k → Quiet b k
 quiet_keeps k a b s t q = record {
   idle = idle_keeps k a b s q.idle;
   all = s.child.taken ∙ q.all ∙ sym (ap sent_by t.parent);
@@ -113,7 +113,7 @@ quiet_keeps k a b s t q = record {
 
 -- ---- changes of one parent's end
 
-module _ (a b : State) (k : ℕ) (moves : ChangesPacket k a b) where
+module _ (a b : SchedulerState) (k : ℕ) (moves : ChangesPacket k a b) where
   moved_thread : (j : ℕ) → (IsBranchOf (code_in a).shape (suc j) k → ⊥) → SameThread j a b
   moved_thread j other = record {
     code = moves.code;
@@ -147,7 +147,7 @@ module _ (a b : State) (k : ℕ) (moves : ChangesPacket k a b) where
       by_test : (j : ℕ) {A : Type 0} → (j ≢ k → A) → (j ≡ k → A) → A
       by_test j f g = by_equal j k f g
 
-  pub moved_leaves : (p t u : ℕ) → IsBranchOf (code_in a).shape p k → t ≤ p → Grown a.mail b.mail → Leaves t u a b
+  pub moved_leaves : (p t u : ℕ) → IsBranchOf (code_in a).shape p k → t ≤ p → Grown a.mail b.mail → KeepsBelow t u a b
   moved_leaves p t u mine le grown = record {
     code = moves.code;
     places = moves.places;
@@ -189,7 +189,7 @@ grown_same a = record {
   stops = extends_same _ _ refl;
 }
 
-pub leaves_same : (t u : ℕ) (a : State) → Leaves t u a a
+pub leaves_same : (t u : ℕ) (a : SchedulerState) → KeepsBelow t u a a
 leaves_same t u a = record {
   code = refl;
   places = refl;
@@ -203,7 +203,7 @@ leaves_same t u a = record {
   children = λ k lt. refl;
 }
 
-pub leaves_then : (t u : ℕ) (a b c : State) → Leaves t u a b → Leaves t u b c → Leaves t u a c
+pub leaves_then : (t u : ℕ) (a b c : SchedulerState) → KeepsBelow t u a b → KeepsBelow t u b c → KeepsBelow t u a c
 leaves_then t u a b c h g = record {
   code = g.code ∙ h.code;
   places = g.places ∙ h.places;
@@ -217,7 +217,7 @@ leaves_then t u a b c h g = record {
   children = λ k lt. g.children k lt ∙ h.children k lt;
 }
 
-pub leaves_less : (t u t' u' : ℕ) (a b : State) → t' ≤ t → u' ≤ u → Leaves t u a b → Leaves t' u' a b
+pub leaves_less : (t u t' u' : ℕ) (a b : SchedulerState) → t' ≤ t → u' ≤ u → KeepsBelow t u a b → KeepsBelow t' u' a b
 leaves_less t u t' u' a b le le' h = record {
   code = h.code;
   places = h.places;
@@ -231,7 +231,7 @@ leaves_less t u t' u' a b le le' h = record {
   children = λ k lt. h.children k (omega (arith, lt, le'));
 }
 
-pub seated_by : (a b : State) → b.code ≡ a.code → b.places ≡ a.places → Alike a.mail b.mail → length b.seats ≡ length a.seats → length b.hands ≡ length a.hands → IsSeated a → IsSeated b
+pub seated_by : (a b : SchedulerState) → b.code ≡ a.code → b.places ≡ a.places → KeepsPort a.mail b.mail → length b.seats ≡ length a.seats → length b.hands ≡ length a.hands → IsSeated a → IsSeated b
 seated_by a b code places alike seats hands f =
     let count = ap (λ x. length (plain_code x).threads) code in
     record {
@@ -243,17 +243,17 @@ seated_by a b code places alike seats hands f =
       places = ap length places ∙ f.places ∙ sym count;
     }
 
-pub seated_keeps : (t u : ℕ) (a b : State) → Leaves t u a b → IsSeated a → IsSeated b
+pub seated_keeps : (t u : ℕ) (a b : SchedulerState) → KeepsBelow t u a b → IsSeated a → IsSeated b
 seated_keeps t u a b h f = seated_by a b h.code h.places h.alike h.seat_count h.hand_count f
 
-pub moved_seated : (a b : State) (k : ℕ) → ChangesPacket k a b → IsSeated a → IsSeated b
+pub moved_seated : (a b : SchedulerState) (k : ℕ) → ChangesPacket k a b → IsSeated a → IsSeated b
 moved_seated a b k h f = seated_by a b h.code h.places h.alike (ap length h.seats) h.hand_count f
 
-pub fitted_keeps : (t u : ℕ) (a b : State) → Leaves t u a b → IsFitted a → IsFitted b
+pub fitted_keeps : (t u : ℕ) (a b : SchedulerState) → KeepsBelow t u a b → IsFitted a → IsFitted b
 fitted_keeps t u a b h f = record { seated = seated_keeps t u a b h f.seated; tells = h.alike.tells ∙ f.tells }
 
 -- a mailbox below the change stays quiet
-pub quiet_below : (a b : State) (m j : ℕ) → IsSeated a → Leaves (suc m) m a b → j < m → suc j < length (code_in a).threads → Quiet a j → Quiet b j
+pub quiet_below : (a b : SchedulerState) (m j : ℕ) → IsSeated a → KeepsBelow (suc m) m a b → j < m → suc j < length (code_in a).threads → Quiet a j → Quiet b j
 quiet_below a b m j f h lt inside q =
     let up = has_parent (code_in a) f.valid j inside in
     let low = branch_above (code_in a) f.valid up.0 j inside up.1 in

@@ -15,7 +15,7 @@ use Rattle.thread_code.specs.Plain.{plain_code}
 use Rattle.thread_code.specs.Valid.{of_shape}
 use Rattle.combine_tree.specs.declared.packet.Packet.{Packet}
 use Rattle.combine_tree.specs.Plain.{plain_packet}
-use Rattle.copy_slots.specs.Ports.{Ends, parent_at, child_at}
+use Rattle.copy_slots.specs.Ports.{MailboxEnds, parent_at, child_at}
 use Rattle.copy_slots.specs.Fresh.{fresh_ends, new_state}
 use Rattle.core_alloc.specs.Places.{Places}
 use Rattle.core_seats.specs.declared.work.ForecWork.{ForecWork}
@@ -58,7 +58,7 @@ all_on places cores n placed some all t = all (get_or places t 0)
     (⊎_elim (λ less. placed t 0 less)
     (λ ge. let none = placed 0 0 some in subst (λ z. z < n) (sym (beyond places t 0 ge)) (omega (arith, none))) (cases_lt t (length places)))
 
-abbrev all_ends : {P : Type 0} (l : List P) → List (Ends PlainPacket)
+abbrev all_ends : {P : Type 0} (l : List P) → List (MailboxEnds PlainPacket)
 all_ends l = map (λ p. fresh_ends) l
 
 new_parent : {P : Type 0} (l : List P) (k : ℕ) → k < length l → IsNewParent true (parent_at (all_ends l) k)

@@ -13,16 +13,16 @@ use Rattle.copy_slots.specs.declared.view.PacketAt.TheVariants.{Fresh, Held}
 use Rattle.copy_slots.specs.declared.view.Sender.{Sender}
 use Rattle.copy_slots.specs.declared.view.Taker.{Taker}
 use Rattle.copy_slots.specs.Mail.{sender_opened}
-use Rattle.copy_slots.specs.Ports.{Ends, parent_at, child_at, on_sender, on_taker, on_parent, on_child, sent_by, got_by, words_of_parent, looked_by_parent, IsParent, IsChild, ParentIs, sent, got}
+use Rattle.copy_slots.specs.Ports.{MailboxEnds, parent_at, child_at, on_sender, on_taker, on_parent, on_child, sent_by, got_by, words_of_parent, looked_by_parent, IsParent, IsChild, ParentIs, sent, got}
 use Rattle.thread_code.specs.declared.instruction.CodeParts.{CodeParts}
 use Rattle.tick_jobs.proofs.Lists.{some_once, get_set, get_set_else}
 use Rattle.core_seats.specs.declared.seat.Seat.{Seat}
 use Rattle.core_seats.specs.Posts.{Mail}
 use Rattle.core_seats.specs.Changes.{Extends}
-use Rattle.core_seats.specs.Keeping.{State, code_in, Alike, IsSeated, Ready, blank, reply, HasPacket}
+use Rattle.core_seats.specs.Keeping.{SchedulerState, code_in, KeepsPort, IsSeated, IsPacketOfParent, blank, reply, HasPacket}
 use Rattle.core_seats.specs.Moving.{ChangesPacket}
 
-abbrev pub state : CodeParts → List ℕ → Mail → List Seat → List (Option Packet) → State
+abbrev pub state : CodeParts → List ℕ → Mail → List Seat → List (Option Packet) → SchedulerState
 state code places mail seats hands = record { code = code; places = places; mail = mail; seats = seats; hands = hands }
 
 -- ---- lists
@@ -30,48 +30,48 @@ state code places mail seats hands = record { code = code; places = places; mail
 -- ---- ends
 
 module _ {Q : Type 0} where
-  pub parents_count : (es : List (Ends Q)) (k : ℕ) (f : Sender Q → Sender Q) → length (on_parent es k f) ≡ length es
+  pub parents_count : (es : List (MailboxEnds Q)) (k : ℕ) (f : Sender Q → Sender Q) → length (on_parent es k f) ≡ length es
   parents_count [] k f = refl
   parents_count (e ∷ es) zero f = refl
   parents_count (e ∷ es) (suc k) f = ap suc (parents_count es k f)
 
-  pub children_count : (es : List (Ends Q)) (k : ℕ) (f : Taker Q → Taker Q) → length (on_child es k f) ≡ length es
+  pub children_count : (es : List (MailboxEnds Q)) (k : ℕ) (f : Taker Q → Taker Q) → length (on_child es k f) ≡ length es
   children_count [] k f = refl
   children_count (e ∷ es) zero f = refl
   children_count (e ∷ es) (suc k) f = ap suc (children_count es k f)
 
-  pub parent_here : (es : List (Ends Q)) (k : ℕ) (f : Sender Q → Sender Q) → parent_at (on_parent es k f) k ≡ on_sender f (parent_at es k)
+  pub parent_here : (es : List (MailboxEnds Q)) (k : ℕ) (f : Sender Q → Sender Q) → parent_at (on_parent es k f) k ≡ on_sender f (parent_at es k)
   parent_here [] k f = refl
   parent_here (e ∷ es) zero f = refl
   parent_here (e ∷ es) (suc k) f = parent_here es k f
 
-  pub parent_else : (es : List (Ends Q)) (k j : ℕ) (f : Sender Q → Sender Q) → j ≢ k → parent_at (on_parent es k f) j ≡ parent_at es j
+  pub parent_else : (es : List (MailboxEnds Q)) (k j : ℕ) (f : Sender Q → Sender Q) → j ≢ k → parent_at (on_parent es k f) j ≡ parent_at es j
   parent_else [] k j f n = refl
   parent_else (e ∷ es) zero zero f n = absurd (n refl)
   parent_else (e ∷ es) zero (suc j) f n = refl
   parent_else (e ∷ es) (suc k) zero f n = refl
   parent_else (e ∷ es) (suc k) (suc j) f n = parent_else es k j f (λ i. n (ap suc i))
 
-  pub child_on_parent : (es : List (Ends Q)) (k j : ℕ) (f : Sender Q → Sender Q) → child_at (on_parent es k f) j ≡ child_at es j
+  pub child_on_parent : (es : List (MailboxEnds Q)) (k j : ℕ) (f : Sender Q → Sender Q) → child_at (on_parent es k f) j ≡ child_at es j
   child_on_parent [] k j f = refl
   child_on_parent (e ∷ es) zero zero f = refl
   child_on_parent (e ∷ es) zero (suc j) f = refl
   child_on_parent (e ∷ es) (suc k) zero f = refl
   child_on_parent (e ∷ es) (suc k) (suc j) f = child_on_parent es k j f
 
-  pub child_here : (es : List (Ends Q)) (k : ℕ) (f : Taker Q → Taker Q) → child_at (on_child es k f) k ≡ on_taker f (child_at es k)
+  pub child_here : (es : List (MailboxEnds Q)) (k : ℕ) (f : Taker Q → Taker Q) → child_at (on_child es k f) k ≡ on_taker f (child_at es k)
   child_here [] k f = refl
   child_here (e ∷ es) zero f = refl
   child_here (e ∷ es) (suc k) f = child_here es k f
 
-  pub child_else : (es : List (Ends Q)) (k j : ℕ) (f : Taker Q → Taker Q) → j ≢ k → child_at (on_child es k f) j ≡ child_at es j
+  pub child_else : (es : List (MailboxEnds Q)) (k j : ℕ) (f : Taker Q → Taker Q) → j ≢ k → child_at (on_child es k f) j ≡ child_at es j
   child_else [] k j f n = refl
   child_else (e ∷ es) zero zero f n = absurd (n refl)
   child_else (e ∷ es) zero (suc j) f n = refl
   child_else (e ∷ es) (suc k) zero f n = refl
   child_else (e ∷ es) (suc k) (suc j) f n = child_else es k j f (λ i. n (ap suc i))
 
-  pub parent_on_child : (es : List (Ends Q)) (k j : ℕ) (f : Taker Q → Taker Q) → parent_at (on_child es k f) j ≡ parent_at es j
+  pub parent_on_child : (es : List (MailboxEnds Q)) (k j : ℕ) (f : Taker Q → Taker Q) → parent_at (on_child es k f) j ≡ parent_at es j
   parent_on_child [] k j f = refl
   parent_on_child (e ∷ es) zero zero f = refl
   parent_on_child (e ∷ es) zero (suc j) f = refl
@@ -99,8 +99,8 @@ extends_one l m a e = record { more = a ∷ []; is = e }
 
 -- ---- a parent's end
 
-module _ (s : State) (k : ℕ) (f : Sender PlainPacket → Sender PlainPacket) (hands : List (Option Packet)) where
-  abbrev pub with_parent : State
+module _ (s : SchedulerState) (k : ℕ) (f : Sender PlainPacket → Sender PlainPacket) (hands : List (Option Packet)) where
+  abbrev pub with_parent : SchedulerState
   with_parent = record s { mail = record s.mail { ends = on_parent s.mail.ends k f }; hands = hands }
 
   looks_on : ((x : Sender PlainPacket) → Extends x.looked (f x).looked) → (o : Option (Sender PlainPacket)) → Extends (words_of_parent o) (words_of_parent (on_sender f o))
@@ -139,10 +139,10 @@ module _ (s : State) (k : ℕ) (f : Sender PlainPacket → Sender PlainPacket) (
     pub got_before : got s.mail k ≡ x.got
     got_before = ap got_by is
 
-pub alike_then : (a b c : Mail) → Alike a b → Alike b c → Alike a c
+pub alike_then : (a b c : Mail) → KeepsPort a b → KeepsPort b c → KeepsPort a c
 alike_then a b c h g = record { work = g.work ∙ h.work; blanks = g.blanks ∙ h.blanks; tells = g.tells ∙ h.tells; root = g.root ∙ h.root; count = g.count ∙ h.count; stops = extends_then _ _ _ h.stops g.stops }
 
-pub moves_then : (k : ℕ) (a b c : State) → ChangesPacket k a b → ChangesPacket k b c → ChangesPacket k a c
+pub moves_then : (k : ℕ) (a b c : SchedulerState) → ChangesPacket k a b → ChangesPacket k b c → ChangesPacket k a c
 moves_then k a b c h g = record {
   code = g.code ∙ h.code;
   places = g.places ∙ h.places;
@@ -158,10 +158,10 @@ moves_then k a b c h g = record {
 -- ---- the packet of a mailbox
 
 -- where it was taken out of its parent's hand
-abbrev pub handed : State → ℕ → State
+abbrev pub handed : SchedulerState → ℕ → SchedulerState
 handed s k = record s { hands = slice_set s.hands k None }
 
-pub handed_moves : (s : State) (k : ℕ) → ChangesPacket k s (handed s k)
+pub handed_moves : (s : SchedulerState) (k : ℕ) → ChangesPacket k s (handed s k)
 handed_moves s k = record {
   code = refl;
   places = refl;
@@ -174,7 +174,7 @@ handed_moves s k = record {
   hand_count = length-set s.hands k None;
 }
 
-module _ (s : State) (k : ℕ) (seated : IsSeated s) (inside : k < length s.mail.ends) (has : HasPacket s k) where
+module _ (s : SchedulerState) (k : ℕ) (seated : IsSeated s) (inside : k < length s.mail.ends) (has : HasPacket s k) where
   in_hands : k < length s.hands
   in_hands = omega (arith, inside, seated.mailboxes, seated.hands)
 
@@ -190,14 +190,14 @@ module _ (s : State) (k : ℕ) (seated : IsSeated s) (inside : k < length s.mail
   pub reply_room : (p : Packet) (d : Option Packet) → d ≡ slice_index_or s.hands k d → d ≡ Some p → HasRoom (of_shape (code_in s).shape) (suc k) (plain_packet p)
   reply_room p d e is = pick has.hand has.ready (sym (hand_is d) ∙ sym e ∙ is)
     where
-      pick : (h : Option Packet) → Ready s k h → h ≡ Some p → HasRoom (of_shape (code_in s).shape) (suc k) (plain_packet p)
+      pick : (h : Option Packet) → IsPacketOfParent s k h → h ≡ Some p → HasRoom (of_shape (code_in s).shape) (suc k) (plain_packet p)
       pick None r q = cc
       pick (Some x) (reply held y room) q = subst (λ z. HasRoom (of_shape (code_in s).shape) (suc k) (plain_packet z)) (some_once x p q) room
 
   pub reply_held : (p : Packet) (d : Option Packet) → d ≡ slice_index_or s.hands k d → d ≡ Some p → ParentIs s.mail k Held
   reply_held p d e is = pick has.hand has.ready (sym (hand_is d) ∙ sym e ∙ is)
     where
-      pick : (h : Option Packet) → Ready s k h → h ≡ Some p → ParentIs s.mail k Held
+      pick : (h : Option Packet) → IsPacketOfParent s k h → h ≡ Some p → ParentIs s.mail k Held
       pick None r q = cc
       pick (Some x) (reply held y room) q = held
 
@@ -211,14 +211,14 @@ module _ (s : State) (k : ℕ) (seated : IsSeated s) (inside : k < length s.mail
     pub is_blank : IsBlank
     is_blank = pick has.hand has.ready (sym (hand_is d) ∙ sym e ∙ nothing)
       where
-        pick : (h : Option Packet) → Ready s k h → h ≡ None → IsBlank
+        pick : (h : Option Packet) → IsPacketOfParent s k h → h ≡ None → IsBlank
         pick None (blank fresh q at room) n = record { fresh = fresh; q = q; at = at; room = room }
         pick (Some x) r n = cc
 
     sender : (x : Sender PlainPacket) × (parent_at s.mail.ends k ≡ Some x) × (x.place ≡ Fresh)
     sender = is_parent (parent_at s.mail.ends k) Fresh is_blank.fresh
 
-    abbrev pub opened : State
+    abbrev pub opened : SchedulerState
     opened = with_parent s k sender_opened (slice_set s.hands k None)
 
     pub opened_moves : ChangesPacket k s opened

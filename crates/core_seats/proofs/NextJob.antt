@@ -7,7 +7,7 @@ use Rattle.core_machine.specs.declared.thread.Thread.{Thread}
 use Rattle.core_machine.specs.Threads.{Loaded}
 use Rattle.core_machine.specs.Forks.{jobs_at}
 use Rattle.tick_jobs.specs.Branches.{IsBranchOf}
-use Rattle.core_seats.specs.Keeping.{State, code_in, IsSeated, MayAsk, IsJobFor, AtFork, CanSend}
+use Rattle.core_seats.specs.Keeping.{SchedulerState, code_in, IsSeated, MayAsk, IsJobFor, AtFork, CanSend}
 use Rattle.core_seats.specs.Waiting.{IsOut}
 use Rattle.tick_jobs.proofs.Lists.{at_map}
 
@@ -31,7 +31,7 @@ out_taken b (w ∷ ws) (suc k) h =
 
 -- ---- the k-th of them
 
-module _ (a b : State) (code : b.code ≡ a.code) (seated : IsSeated b) (h : Thread) (k number : ℕ) (fork : AtFork a h) (rest : (i : ℕ) (w : Written) → k ≤ i → slice_get (jobs_at (code_in a) h) i ≡ Some w → IsJobFor (code_in a) b.mail h.number w)
+module _ (a b : SchedulerState) (code : b.code ≡ a.code) (seated : IsSeated b) (h : Thread) (k number : ℕ) (fork : AtFork a h) (rest : (i : ℕ) (w : Written) → k ≤ i → slice_get (jobs_at (code_in a) h) i ≡ Some w → IsJobFor (code_in a) b.mail h.number w)
     (at : slice_get h.branches.numbers k ≡ Some number) where
   abbrev ws : List Written
   ws = jobs_at (code_in a) h

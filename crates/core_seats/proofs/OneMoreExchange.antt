@@ -15,7 +15,7 @@ use Rattle.core_seats.specs.declared.seat.Seat.{Seat}
 use Rattle.core_seats.specs.Posts.{Mail, AreReplies}
 use Rattle.tick_jobs.specs.Branches.{IsBranchOf, replies_to, AreAbove}
 use Rattle.core_seats.specs.Done.{Posts}
-use Rattle.core_seats.specs.Keeping.{State, code_in, HasPacket, LacksPacket}
+use Rattle.core_seats.specs.Keeping.{SchedulerState, code_in, HasPacket, LacksPacket}
 use Rattle.core_seats.specs.Moving.{ChangesPacket, HasSent, HasGot, HasLooked}
 use Rattle.core_seats.specs.Waiting.{jobs_out, IsOut, HasTold}
 use Rattle.tick_jobs.proofs.Lists.{by_equal}
@@ -27,10 +27,10 @@ use Rattle.tick_jobs.proofs.Pairs.{jobs_first, jobs_then, replies_then, same_tes
 -- ---- the same code and places
 
 -- a state with the code and the places of another
-abbrev pub changed : State → Mail → List Seat → List (Option Packet) → State
+abbrev pub changed : SchedulerState → Mail → List Seat → List (Option Packet) → SchedulerState
 changed s mail seats hands = record s { mail = mail; seats = seats; hands = hands }
 
-pub changed_is : (a b : State) → b.code ≡ a.code → b.places ≡ a.places → changed a b.mail b.seats b.hands ≡ b
+pub changed_is : (a b : SchedulerState) → b.code ≡ a.code → b.places ≡ a.places → changed a b.mail b.seats b.hands ≡ b
 changed_is a b code places = ap (λ x. record b { code = x; places = a.places }) (sym code) ∙ ap (λ x. record b { places = x }) (sym places)
 
 -- ---- jobs that are out
@@ -57,7 +57,7 @@ out_here b (v ∷ ws) w e = inr (out_here b ws w e)
 
 -- ---- nothing is out
 
-pub told_posts : (s : State) (t : ℕ) (pairs : List Answered) → HasTold s t pairs [] → Posts (code_in s) t s.mail pairs
+pub told_posts : (s : SchedulerState) (t : ℕ) (pairs : List Answered) → HasTold s t pairs [] → Posts (code_in s) t s.mail pairs
 told_posts s t pairs h = record {
   above = h.above;
   allowed = h.allowed;
@@ -65,7 +65,7 @@ told_posts s t pairs h = record {
   got = h.got;
 }
 
-pub posts_told : (s : State) (t : ℕ) (pairs : List Answered) → Posts (code_in s) t s.mail pairs → ((k : ℕ) → k < length s.mail.ends → IsBranchOf (code_in s).shape t k → HasPacket s k) → HasTold s t pairs []
+pub posts_told : (s : SchedulerState) (t : ℕ) (pairs : List Answered) → Posts (code_in s) t s.mail pairs → ((k : ℕ) → k < length s.mail.ends → IsBranchOf (code_in s).shape t k → HasPacket s k) → HasTold s t pairs []
 posts_told s t pairs h has = record {
   above = h.above;
   allowed = h.allowed;
@@ -75,16 +75,16 @@ posts_told s t pairs h has = record {
   has = λ k lt mine n. has k lt mine;
 }
 
-pub lacks_keeps : (k : ℕ) (a b : State) → parent_at b.mail.ends k ≡ parent_at a.mail.ends k → slice_get b.hands k ≡ slice_get a.hands k → LacksPacket a k → LacksPacket b k
+pub lacks_keeps : (k : ℕ) (a b : SchedulerState) → parent_at b.mail.ends k ≡ parent_at a.mail.ends k → slice_get b.hands k ≡ slice_get a.hands k → LacksPacket a k → LacksPacket b k
 lacks_keeps k a b parent hand l = record { out = subst (λ (o : Option (Sender PlainPacket)). IsParent o Out) (sym parent) l.out; empty = hand ∙ l.empty }
 
 -- ---- one job more, or one reply more
 
-module _ (s : State) (mail : Mail) (seats : List Seat) (hands : List (Option Packet)) (t m : ℕ) (mine : IsBranchOf (code_in s).shape t m) (moves : ChangesPacket m s (changed s mail seats hands)) where
+module _ (s : SchedulerState) (mail : Mail) (seats : List Seat) (hands : List (Option Packet)) (t m : ℕ) (mine : IsBranchOf (code_in s).shape t m) (moves : ChangesPacket m s (changed s mail seats hands)) where
   abbrev c : PlainCode
   c = code_in s
 
-  abbrev s' : State
+  abbrev s' : SchedulerState
   s' = changed s mail seats hands
 
   apart : (k : ℕ) → k ≢ m → suc m ≢ suc k

@@ -19,7 +19,7 @@ use Rattle.tick_jobs.specs.Branches.{IsBranchOf}
 use Rattle.core_seats.specs.Changes.{Grown}
 use Rattle.core_seats.specs.Descending.{IsActive, IsRunning, IsHeld}
 use Rattle.tick_jobs.specs.Writing.{Log, heard, told}
-use Rattle.core_seats.specs.Keeping.{State, code_in, Alike, IsSeated, HaveHeard}
+use Rattle.core_seats.specs.Keeping.{SchedulerState, code_in, KeepsPort, IsSeated, HaveHeard}
 use Rattle.core_seats.specs.Waiting.{HasTold, IsGathering, HasReplies, IsAtWork, IsWorking, IsWaiting, WaitsAt}
 use Rattle.core_seats.specs.OnJob.{IsOnJob}
 use Rattle.core_seats.specs.Serving.{ChangesBranches, Touches}
@@ -32,11 +32,11 @@ use Rattle.core_seats.proofs.GatherReplies.{all_heard}
 -- ---- its work stays while its branches are looked at
 
 -- it waits at a fork, and all replies are in hand
-pub record HasAll (s : State) (h : Thread) : Type 0 where
+pub record HasAll (s : SchedulerState) (h : Thread) : Type 0 where
   pub waiting : IsWaiting s h
   pub all : length waiting.gathering.replies ≡ length h.branches.numbers
 
-module _ (a b : State) (h : Thread) (moves : ChangesBranches h.number a b) (w : IsWaiting a h) where
+module _ (a b : SchedulerState) (h : Thread) (moves : ChangesBranches h.number a b) (w : IsWaiting a h) where
   abbrev pub its_pairs : List Answered
   its_pairs = told (code_in a) h.number w.work.jobs w.work.job w.work.log
 
@@ -54,7 +54,7 @@ module _ (a b : State) (h : Thread) (moves : ChangesBranches h.number a b) (w : 
 
 -- ---- out of its seat
 
-module _ (s0 : State) (m : ℕ) (inside : m < length s0.mail.ends) (seated : IsSeated s0) (w : WaitsAt s0 m) (x : Seat) (found : slice_get s0.seats (m + 1) ≡ Some x) (s1 : State) (rising : s1 ≡ record s0 { seats = slice_set s0.seats (m + 1) (record { thread = None; job = None }) })
+module _ (s0 : SchedulerState) (m : ℕ) (inside : m < length s0.mail.ends) (seated : IsSeated s0) (w : WaitsAt s0 m) (x : Seat) (found : slice_get s0.seats (m + 1) ≡ Some x) (s1 : SchedulerState) (rising : s1 ≡ record s0 { seats = slice_set s0.seats (m + 1) (record { thread = None; job = None }) })
     (h : Thread) (is : x.thread ≡ Some h) (p : Packet) (holds : x.job ≡ Some p) where
   abbrev empty : Seat
   empty = record { thread = None; job = None }
@@ -81,36 +81,36 @@ module _ (s0 : State) (m : ℕ) (inside : m < length s0.mail.ends) (seated : IsS
       (waiting_keeps s0 s0.mail (slice_set s0.seats (m + 1) empty) s0.hands refl refl w.thread (λ j mine. refl) (λ j mine. refl) w.waiting refl))
 
   mail_is : s1.mail ≡ s0.mail
-  mail_is = ap (λ (s : State). s.mail) rising
+  mail_is = ap (λ (s : SchedulerState). s.mail) rising
 
   code_is : s1.code ≡ s0.code
-  code_is = ap (λ (s : State). s.code) rising
+  code_is = ap (λ (s : SchedulerState). s.code) rising
 
-  module _ (s2 : State) (moves : ChangesBranches h.number s1 s2) where
+  module _ (s2 : SchedulerState) (moves : ChangesBranches h.number s1 s2) where
     code2 : s2.code ≡ s0.code
     code2 = moves.code ∙ code_is
 
     child2 : (j : ℕ) → child_at s2.mail.ends j ≡ child_at s0.mail.ends j
-    child2 j = moves.children j ∙ ap (λ (s : State). child_at s.mail.ends j) rising
+    child2 j = moves.children j ∙ ap (λ (s : SchedulerState). child_at s.mail.ends j) rising
 
     not_mine : (j : ℕ) → (IsBranchOf (code_in s0).shape (suc m) j → ⊥) → IsBranchOf (code_in s1).shape h.number j → ⊥
     not_mine j n mine = n (subst (λ t. IsBranchOf (code_in s0).shape t j) its_number (subst (λ c. IsBranchOf (plain_code c).shape h.number j) code_is mine))
 
     seat_else : (j : ℕ) → j ≢ suc m → slice_get s1.seats j ≡ slice_get s0.seats j
-    seat_else j n = ap (λ (s : State). slice_get s.seats j) rising ∙ get_set_else s0.seats (m + 1) j empty (λ e. n (e ∙ one))
+    seat_else j n = ap (λ (s : SchedulerState). slice_get s.seats j) rising ∙ get_set_else s0.seats (m + 1) j empty (λ e. n (e ∙ one))
 
     pub up_touches : Touches m s0 s2
     up_touches = record {
       code = code2;
-      places = moves.places ∙ ap (λ (s : State). s.places) rising;
-      alike = subst (λ (mail : Mail). Alike mail s2.mail) mail_is moves.alike;
+      places = moves.places ∙ ap (λ (s : SchedulerState). s.places) rising;
+      alike = subst (λ (mail : Mail). KeepsPort mail s2.mail) mail_is moves.alike;
       grown = subst (λ (mail : Mail). Grown mail s2.mail) mail_is moves.grown;
       seats = λ j n. ap (λ l. slice_get l j) moves.seats ∙ seat_else j n;
-      seat_count = ap length moves.seats ∙ ap (λ (s : State). length s.seats) rising ∙ length-set s0.seats (m + 1) empty;
+      seat_count = ap length moves.seats ∙ ap (λ (s : SchedulerState). length s.seats) rising ∙ length-set s0.seats (m + 1) empty;
       children = λ j n. child2 j;
-      parents = λ j n. moves.parents j (not_mine j n) ∙ ap (λ (s : State). parent_at s.mail.ends j) rising;
-      hands = λ j n. moves.hands j (not_mine j n) ∙ ap (λ (s : State). slice_get s.hands j) rising;
-      hand_count = moves.hand_count ∙ ap (λ (s : State). length s.hands) rising;
+      parents = λ j n. moves.parents j (not_mine j n) ∙ ap (λ (s : SchedulerState). parent_at s.mail.ends j) rising;
+      hands = λ j n. moves.hands j (not_mine j n) ∙ ap (λ (s : SchedulerState). slice_get s.hands j) rising;
+      hand_count = moves.hand_count ∙ ap (λ (s : SchedulerState). length s.hands) rising;
     }
 
     pub up_room : HasRoom (of_shape (code_in s2).shape) (suc m) (plain_packet p)
@@ -134,7 +134,7 @@ module _ (s0 : State) (m : ℕ) (inside : m < length s0.mail.ends) (seated : IsS
 
 -- ---- on with the replies
 
-module _ (s : State) (seated : IsSeated s) (h : Thread) (loaded : Loaded (code_in s) h) (jobs : List Job) (job : Job) (log : Log (code_in s) h.number jobs job) (stands : StandsFor (code_in s) h (heard (code_in s) h.number jobs job log)) (r : HasReplies s h (told (code_in s) h.number jobs job log))
+module _ (s : SchedulerState) (seated : IsSeated s) (h : Thread) (loaded : Loaded (code_in s) h) (jobs : List Job) (job : Job) (log : Log (code_in s) h.number jobs job) (stands : StandsFor (code_in s) h (heard (code_in s) h.number jobs job log)) (r : HasReplies s h (told (code_in s) h.number jobs job log))
     (h2 h3 : Thread) (number2 : h2.number ≡ h.number) (number3 : h3.number ≡ h2.number) (branches2 : h2.branches.numbers ≡ h.branches.numbers)
     (settles : (rs : List Reply) (xs : List Exchange) → HaveHeard s h.branches.numbers rs → StandsFor (code_in s) h (with_replies xs []) → StandsFor (code_in s) h2 (with_replies xs rs))
     (joins : (rs : List Reply) (xs : List Exchange) → HaveHeard s h2.branches.numbers rs → StandsFor (code_in s) h2 (with_replies xs rs) → StandsFor (code_in s) h3 (with_replies xs rs)) where
@@ -178,7 +178,7 @@ module _ (s : State) (seated : IsSeated s) (h : Thread) (loaded : Loaded (code_i
         told = posts_told s h3.number (told (code_in s) h3.number jobs job j.0.log) j.0.posts (λ i lt is. all_told.has i lt (subst (λ t. IsBranchOf (code_in s).shape t i) number is) (λ o. o));
       }
 
-module _ (s : State) (seated : IsSeated s) (h : Thread) (r : HasAll s h) (h2 h3 : Thread) (loaded3 : Loaded (code_in s) h3) (number2 : h2.number ≡ h.number) (number3 : h3.number ≡ h2.number) (branches2 : h2.branches.numbers ≡ h.branches.numbers)
+module _ (s : SchedulerState) (seated : IsSeated s) (h : Thread) (r : HasAll s h) (h2 h3 : Thread) (loaded3 : Loaded (code_in s) h3) (number2 : h2.number ≡ h.number) (number3 : h3.number ≡ h2.number) (branches2 : h2.branches.numbers ≡ h.branches.numbers)
     (settles : (rs : List Reply) (xs : List Exchange) → HaveHeard s h.branches.numbers rs → StandsFor (code_in s) h (with_replies xs []) → StandsFor (code_in s) h2 (with_replies xs rs))
     (joins : (rs : List Reply) (xs : List Exchange) → HaveHeard s h2.branches.numbers rs → StandsFor (code_in s) h2 (with_replies xs rs) → StandsFor (code_in s) h3 (with_replies xs rs)) where
   abbrev k : IsAtWork s h

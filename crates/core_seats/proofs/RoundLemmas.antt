@@ -3,8 +3,8 @@ use Rattle.std.proofs.Common.{◌≡◌, ℕ, ◌<◌, ◌≤◌, Some, List, le
 use Rattle.std.specs.Prelude.{Option, None, get_or, slice_get}
 use Rattle.std.proofs.lemmas.Option.{slice_get-get_or}
 use Rattle.core_bells.specs.Ropes.{RopeState, IsSameRope}
-use Rattle.core_seats.specs.Keeping.{State}
-use Rattle.core_seats.specs.Waiting.{IsBetween}
+use Rattle.core_seats.specs.Keeping.{SchedulerState}
+use Rattle.core_seats.specs.Waiting.{RestsOrWaits}
 use Rattle.core_seats.specs.Serving.{KeepsServing}
 use Rattle.core_seats.specs.Hung.{KeepsRope}
 use Rattle.core_seats.specs.Rounds.{CanServe, IsSameRound}
@@ -35,10 +35,10 @@ rope_then (Some r) (Some q) None h g = absurd g
 
 -- ---- the round
 
-pub round_same : (s : State) (r : Round) → CanServe s r → IsSameRound r r
+pub round_same : (s : SchedulerState) (r : Round) → CanServe s r → IsSameRound r r
 round_same s r can = record { own = refl; next = can.next; rope = rope_same r.rope }
 
-pub its_turn : (s : State) (r : Round) → CanServe s r → (i k : ℕ) → i < length r.own.items → k ≡ get_or r.own.items i k → (k < length s.mail.ends) × IsBetween s k
+pub its_turn : (s : SchedulerState) (r : Round) → CanServe s r → (i k : ℕ) → i < length r.own.items → k ≡ get_or r.own.items i k → (k < length s.mail.ends) × RestsOrWaits s k
 its_turn s r can i k lt is = can.each i k (slice_get-get_or r.own.items i k lt ∙ ap Some (sym is))
 
 pub round_moved : (a b : Round) → a.next ≤ length a.own.items → b.own ≡ a.own → b.next ≡ a.next → KeepsRope a.rope b.rope → IsSameRound a b
@@ -48,7 +48,7 @@ round_moved a b within own next rope =
 pub round_then : (a b c : Round) → IsSameRound a b → IsSameRound b c → IsSameRound a c
 round_then a b c h g = record { own = g.own ∙ h.own; next = g.next; rope = rope_then a.rope b.rope c.rope h.rope g.rope }
 
-pub round_still : (s0 s1 : State) (a b : Round) → KeepsServing s0 s1 → IsSameRound a b → CanServe s0 a → CanServe s1 b
+pub round_still : (s0 s1 : SchedulerState) (a b : Round) → KeepsServing s0 s1 → IsSameRound a b → CanServe s0 a → CanServe s1 b
 round_still s0 s1 a b keeps same can = record {
   next = same.next;
   each = λ i k at.

@@ -15,8 +15,8 @@ use Rattle.combine_tree.specs.declared.packet.PacketKind.{PacketKind}
 use Rattle.combine_tree.specs.declared.packet.PacketKind.TheVariants as kind
 use Rattle.combine_tree.specs.Plain.{plain_kind, plain_packet}
 use Rattle.core_machine.specs.declared.thread.Thread.{Thread}
-use Rattle.core_machine.specs.Threads.{Loaded, StandsFor, CanBegin, HasPaused, HasReply, Gives}
-use Rattle.core_machine.specs.Replies.{Replies_by}
+use Rattle.core_machine.specs.Threads.{Loaded, StandsFor, CanBegin, HasPaused, HasReply, RepliesToLast}
+use Rattle.core_machine.specs.Replies.{RepliesByKind}
 use Rattle.copy_slots.specs.declared.view.PacketAt.TheVariants.{Out}
 use Rattle.copy_slots.specs.declared.view.Sender.{Sender}
 use Rattle.copy_slots.specs.declared.view.Taker.{Taker}
@@ -28,7 +28,7 @@ use Rattle.core_seats.specs.Asking.{Replies, ArePaused, MayFollow, Asks}
 use Rattle.tick_jobs.specs.Branches.{IsBranchOf}
 use Rattle.core_seats.specs.Changes.{Extends}
 use Rattle.core_seats.specs.Done.{HasDone, InJob, through}
-use Rattle.core_seats.specs.Keeping.{State, code_in, Alike, Leaves, IsSeated, LastReply, none, last, Idle, QuietAbove, LacksPacket, IsBack}
+use Rattle.core_seats.specs.Keeping.{SchedulerState, code_in, KeepsPort, KeepsBelow, IsSeated, LastReply, none, last, Idle, QuietAbove, LacksPacket, IsBack}
 use Rattle.core_seats.specs.Following.{HasFollowed}
 use Rattle.core_seats.proofs.Mails.{children_count, child_here, child_else, parent_on_child, is_child, extends_same, extends_one}
 use Rattle.tick_jobs.proofs.Lists.{by_equal, get_set, get_set_else}
@@ -40,17 +40,17 @@ use Rattle.tick_jobs.proofs.Logs.{front_once, job_begins, Ends, job_ends}
 
 -- ---- a child's end, and its thread's seat
 
-pub record Works (m : ℕ) (a b : State) : Type 0 where
+pub record Works (m : ℕ) (a b : SchedulerState) : Type 0 where
   pub code : b.code ≡ a.code
   pub places : b.places ≡ a.places
   pub hands : b.hands ≡ a.hands
-  pub alike : Alike a.mail b.mail
+  pub alike : KeepsPort a.mail b.mail
   pub parents : (j : ℕ) → parent_at b.mail.ends j ≡ parent_at a.mail.ends j
   pub children : (j : ℕ) → j ≢ m → child_at b.mail.ends j ≡ child_at a.mail.ends j
   pub seats : (j : ℕ) → j ≢ suc m → slice_get b.seats j ≡ slice_get a.seats j
   pub seat_count : length b.seats ≡ length a.seats
 
-pub works_child : (s : State) (m : ℕ) (f : Taker PlainPacket → Taker PlainPacket) (seats : List Seat) → ((j : ℕ) → j ≢ suc m → slice_get seats j ≡ slice_get s.seats j) → length seats ≡ length s.seats →
+pub works_child : (s : SchedulerState) (m : ℕ) (f : Taker PlainPacket → Taker PlainPacket) (seats : List Seat) → ((j : ℕ) → j ≢ suc m → slice_get seats j ≡ slice_get s.seats j) → length seats ≡ length s.seats →
     Works m s (record s { mail = record s.mail { ends = on_child s.mail.ends m f }; seats = seats })
 works_child s m f seats else count = record {
   code = refl;
@@ -63,7 +63,7 @@ works_child s m f seats else count = record {
   seat_count = count;
 }
 
-pub works_quiet : (m : ℕ) (a b : State) → Works m a b → QuietAbove a (suc m) → QuietAbove b (suc m)
+pub works_quiet : (m : ℕ) (a b : SchedulerState) → Works m a b → QuietAbove a (suc m) → QuietAbove b (suc m)
 works_quiet m a b w above j from lt =
     let count = w.alike.count in
     quiet_keeps j a b
@@ -71,7 +71,7 @@ works_quiet m a b w above j from lt =
     (record { parent = w.parents j; hand = ap (λ l. slice_get l j) w.hands; blanks = w.alike.blanks })
     (above j from (omega (arith, lt, count)))
 
-pub works_leaves : (m : ℕ) (a b : State) → Works m a b → Extends (taken a.mail m) (taken b.mail m) → Extends (answered a.mail m) (answered b.mail m) → Extends (looked_by_child a.mail m) (looked_by_child b.mail m) → Leaves (suc m) m a b
+pub works_leaves : (m : ℕ) (a b : SchedulerState) → Works m a b → Extends (taken a.mail m) (taken b.mail m) → Extends (answered a.mail m) (answered b.mail m) → Extends (looked_by_child a.mail m) (looked_by_child b.mail m) → KeepsBelow (suc m) m a b
 works_leaves m a b w t d l = record {
   code = w.code;
   places = w.places;
@@ -137,7 +137,7 @@ paused_then c k jobs h (last reply answers paused) p =
     (subst (λ js. Answers (CodeAlone c) (length c.threads) (suc k) js answers.plain_reply) same answers.answers) p.answers.answers in
     paused (same_kind reply p.reply answers.plain_reply p.answers.plain_reply answers.reply_is p.answers.reply_is one p.paused)
 
-module _ (s0 : State) (m : ℕ) (seated : IsSeated s0) (inside : m < length s0.mail.ends) (idle : Idle s0 m) (p : Packet) (asks : Asks (code_in s0) m (taken s0.mail m ++ plain_packet p ∷ [])) where
+module _ (s0 : SchedulerState) (m : ℕ) (seated : IsSeated s0) (inside : m < length s0.mail.ends) (idle : Idle s0 m) (p : Packet) (asks : Asks (code_in s0) m (taken s0.mail m ++ plain_packet p ∷ [])) where
   abbrev q : PlainPacket
   q = plain_packet p
 
@@ -166,7 +166,7 @@ module _ (s0 : State) (m : ℕ) (seated : IsSeated s0) (inside : m < length s0.m
   job_is = subst (λ x. IsJob x asks.job) (sym parts.1) asks.is
 
   module _ (x : Seat) where
-    abbrev pub at_work : State
+    abbrev pub at_work : SchedulerState
     at_work = record s0 { mail = record s0.mail { ends = on_child s0.mail.ends m (taker_took q) }; seats = slice_set s0.seats (suc m) x }
 
     pub work_begins : Works m s0 at_work
@@ -190,7 +190,7 @@ module _ (s0 : State) (m : ℕ) (seated : IsSeated s0) (inside : m < length s0.m
     pub holds_now : ChildIs at_work.mail m true
     holds_now = subst (λ (o : Option (Taker PlainPacket)). IsChild o true) (sym child_now) refl
 
-    pub leaves_begin : Leaves (suc m) m s0 at_work
+    pub leaves_begin : KeepsBelow (suc m) m s0 at_work
     leaves_begin = works_leaves m s0 at_work work_begins (extends_one _ _ q taken_now) (extends_same _ _ answered_same) (extends_one _ _ 1 looked_now)
 
     pub seated_work : IsSeated at_work
@@ -215,10 +215,10 @@ module _ (s0 : State) (m : ℕ) (seated : IsSeated s0) (inside : m < length s0.m
       pub followed : HasFollowed at_work h1
       followed = record { jobs = idle.jobs; job = asks.job; in_job = in_job.0; first = in_job.1 }
 
-      module _ (all : taken s0.mail m ++ q ∷ [] ≡ sent s0.mail m) (s3 : State) (h2 : Thread) (number2 : h2.number ≡ h1.number) (loaded2 : Loaded (code_in s3) h2) (replied : HasReply h2) (above3 : QuietAbove s3 (suc m))
-          (leaves3 : Leaves (suc m) (suc m) at_work s3) (done3 : InJob (code_in s0) h2 s3.mail idle.jobs asks.job)
-          (p' : Packet) (room' : HasRoom (of_shape (code_in s0).shape) (suc m) (plain_packet p')) (kind' : Replies_by h2 p'.kind)
-          (gives : (xs : List Exchange) → StandsFor (code_in s0) h2 xs → Gives (code_in s0) h2.number xs (plain_packet p')) where
+      module _ (all : taken s0.mail m ++ q ∷ [] ≡ sent s0.mail m) (s3 : SchedulerState) (h2 : Thread) (number2 : h2.number ≡ h1.number) (loaded2 : Loaded (code_in s3) h2) (replied : HasReply h2) (above3 : QuietAbove s3 (suc m))
+          (leaves3 : KeepsBelow (suc m) (suc m) at_work s3) (done3 : InJob (code_in s0) h2 s3.mail idle.jobs asks.job)
+          (p' : Packet) (room' : HasRoom (of_shape (code_in s0).shape) (suc m) (plain_packet p')) (kind' : RepliesByKind h2 p'.kind)
+          (gives : (xs : List Exchange) → StandsFor (code_in s0) h2 xs → RepliesToLast (code_in s0) h2.number xs (plain_packet p')) where
         abbrev q' : PlainPacket
         q' = plain_packet p'
 
@@ -253,7 +253,7 @@ module _ (s0 : State) (m : ℕ) (seated : IsSeated s0) (inside : m < length s0.m
         holds3 = subst (λ (o : Option (Taker PlainPacket)). IsChild o true) (sym child3) holds_now
 
         module _ (y : Seat) (is : y.thread ≡ Some h2) (vacant : y.job ≡ None) where
-          abbrev pub at_end : State
+          abbrev pub at_end : SchedulerState
           at_end = record s3 { mail = record s3.mail { ends = on_child s3.mail.ends m (taker_answered q') }; seats = slice_set s3.seats (suc m) y }
 
           pub work_ends : Works m s3 at_end
@@ -274,13 +274,13 @@ module _ (s0 : State) (m : ℕ) (seated : IsSeated s0) (inside : m < length s0.m
           answered3 : answered s3.mail m ≡ answered s0.mail m
           answered3 = ap answered_by child3 ∙ answered_same
 
-          leaves_end : Leaves (suc m) m s3 at_end
+          leaves_end : KeepsBelow (suc m) m s3 at_end
           leaves_end = works_leaves m s3 at_end work_ends (extends_same _ _ taken4) (extends_one _ _ q' answered4) (extends_same _ _ (ap words_of_child child4 ∙ sym (ap words_of_child taker3.1)))
 
-          middle : Leaves (suc m) m at_work s3
+          middle : KeepsBelow (suc m) m at_work s3
           middle = leaves_less (suc m) (suc m) (suc m) m at_work s3 (omega arith) (omega arith) leaves3
 
-          pub leaves_all : Leaves (suc m) m s0 at_end
+          pub leaves_all : KeepsBelow (suc m) m s0 at_end
           leaves_all = leaves_then (suc m) m s0 at_work at_end leaves_begin (leaves_then (suc m) m at_work s3 at_end middle leaves_end)
 
           pub above_end : QuietAbove at_end (suc m)
@@ -295,7 +295,7 @@ module _ (s0 : State) (m : ℕ) (seated : IsSeated s0) (inside : m < length s0.m
           parent_end : parent_at at_end.mail.ends m ≡ parent_at s0.mail.ends m
           parent_end = leaves_all.parents m up.0 up.1 (branch_above (code_in s0) seated.valid up.0 m in_threads up.1)
 
-          paused : (k : PacketKind) → Replies_by h2 k → plain_kind k ≡ IsPaused → HasPaused h2
+          paused : (k : PacketKind) → RepliesByKind h2 k → plain_kind k ≡ IsPaused → HasPaused h2
           paused kind.Paused r e = r
           paused kind.Blank r e = absurd r
           paused kind.Start r e = absurd r

@@ -17,7 +17,7 @@ use Rattle.tick_jobs.proofs.Pairs.{jobs_then, replies_then, same_test, other_tes
 use Rattle.core_seats.specs.Posts.{Mail, AreReplies}
 use Rattle.tick_jobs.specs.Branches.{IsBranchOf, replies_to, AreAbove}
 use Rattle.core_seats.specs.Done.{Posts}
-use Rattle.core_seats.specs.Keeping.{State, code_in, Leaves, IsFitted, Quiet, QuietAbove, HasHeard}
+use Rattle.core_seats.specs.Keeping.{SchedulerState, code_in, KeepsBelow, IsFitted, Quiet, QuietAbove, HasHeard}
 use Rattle.core_seats.specs.Moving.{ChangesPacket, HasSent, HasGot}
 use Rattle.core_seats.proofs.Mails.{extends_one, extends_same}
 use Rattle.core_seats.proofs.KeepingLemmas.{moved_quiet, moved_grown, moved_leaves, leaves_then, leaves_less, quiet_below, fitted_keeps}
@@ -105,8 +105,8 @@ module _ (c : PlainCode) (t : ℕ) (m m' : Mail) (k : ℕ) (mine : IsBranchOf c.
 
 -- ---- one branch: its job is sent, done, and its reply got
 
-module _ (s0 s1 s2 s3 : State) (t m : ℕ) (fitted : IsFitted s0) (inside : m < length s0.mail.ends) (mine : IsBranchOf (code_in s0).shape t m) (le : t ≤ m) (job : Job)
-    (above : QuietAbove s0 t) (sending : ChangesPacket m s0 s1) (sent_now : HasSent s0 s1 m job) (working : Leaves (suc m) m s1 s2) (above_now : QuietAbove s2 (suc m))
+module _ (s0 s1 s2 s3 : SchedulerState) (t m : ℕ) (fitted : IsFitted s0) (inside : m < length s0.mail.ends) (mine : IsBranchOf (code_in s0).shape t m) (le : t ≤ m) (job : Job)
+    (above : QuietAbove s0 t) (sending : ChangesPacket m s0 s1) (sent_now : HasSent s0 s1 m job) (working : KeepsBelow (suc m) m s1 s2) (above_now : QuietAbove s2 (suc m))
     (getting : ChangesPacket m s2 s3) (quiet_now : Quiet s3 m) (got_now : HasGot s2 s3 m) where
   mine1 : IsBranchOf (code_in s1).shape t m
   mine1 = subst (λ x. IsBranchOf (plain_code x).shape t m) (sym sending.code) mine
@@ -114,25 +114,25 @@ module _ (s0 s1 s2 s3 : State) (t m : ℕ) (fitted : IsFitted s0) (inside : m < 
   mine2 : IsBranchOf (code_in s2).shape t m
   mine2 = subst (λ x. IsBranchOf (plain_code x).shape t m) (sym working.code) mine1
 
-  pub first_leaves : Leaves t t s0 s1
+  pub first_leaves : KeepsBelow t t s0 s1
   first_leaves = moved_leaves s0 s1 m sending t t t mine (omega arith)
       (moved_grown s0 s1 m sending (extends_one (sent s0.mail m) (sent s1.mail m) sent_now.packet sent_now.sent) (extends_same (got s0.mail m) (got s1.mail m) sent_now.got))
 
-  middle_leaves : Leaves t t s1 s2
+  middle_leaves : KeepsBelow t t s1 s2
   middle_leaves = leaves_less (suc m) m t t s1 s2 (omega (arith, le)) le working
 
-  last_leaves : Leaves t t s2 s3
+  last_leaves : KeepsBelow t t s2 s3
   last_leaves = moved_leaves s2 s3 m getting t t t mine2 (omega arith)
       (moved_grown s2 s3 m getting (extends_same (sent s2.mail m) (sent s3.mail m) got_now.sent) (extends_one (got s2.mail m) (got s3.mail m) (plain_packet got_now.packet) got_now.got))
 
-  pub all_leaves : Leaves t t s0 s3
+  pub all_leaves : KeepsBelow t t s0 s3
   all_leaves = leaves_then t t s0 s1 s3 first_leaves (leaves_then t t s1 s2 s3 middle_leaves last_leaves)
 
   fitted1 : IsFitted s1
   fitted1 = fitted_keeps t t s0 s1 first_leaves fitted
 
   -- the thread of a mailbox from t on isn't this one's parent
-  other : (s : State) → IsBranchOf (code_in s).shape t m → (j : ℕ) → t ≤ j → IsBranchOf (code_in s).shape (suc j) m → ⊥
+  other : (s : SchedulerState) → IsBranchOf (code_in s).shape t m → (j : ℕ) → t ≤ j → IsBranchOf (code_in s).shape (suc j) m → ⊥
   other s is j from own = let same = parent_once (code_in s) (suc j) t m own is in absurd (omega (arith, same, from))
 
   by_order : {A : Type 0} (j : ℕ) → (j < m → A) → (j ≡ m → A) → (m < j → A) → A

@@ -11,15 +11,15 @@ use Rattle.thread_code.specs.Valid.{of_shape}
 use Rattle.combine_tree.specs.declared.packet.Packet.{Packet}
 use Rattle.combine_tree.specs.Plain.{plain_packet}
 use Rattle.core_machine.specs.declared.thread.Thread.{Thread}
-use Rattle.core_machine.specs.Threads.{Loaded, StandsFor, CanBegin, HasReply, IsResting, Gives}
-use Rattle.core_machine.specs.Replies.{Replies_by}
+use Rattle.core_machine.specs.Threads.{Loaded, StandsFor, CanBegin, HasReply, IsResting, RepliesToLast}
+use Rattle.core_machine.specs.Replies.{RepliesByKind}
 use Rattle.copy_slots.specs.Mail.{taker_took, taker_answered}
 use Rattle.copy_slots.specs.Ports.{child_at, on_child, on_taker, sent_by, taken_by, ChildIs, sent, taken, turn, after_take, after_answer}
 use Rattle.core_seats.specs.declared.seat.Seat.{Seat}
 use Rattle.core_seats.specs.Asking.{Replies, Asks}
 use Rattle.core_seats.specs.Posts.{Mail}
 use Rattle.core_seats.specs.Done.{InJob}
-use Rattle.core_seats.specs.Keeping.{State, code_in, Leaves, IsSeated, IsFitted, Idle, QuietAbove, LacksPacket, IsBack}
+use Rattle.core_seats.specs.Keeping.{SchedulerState, code_in, KeepsBelow, IsSeated, IsFitted, Idle, QuietAbove, LacksPacket, IsBack}
 use Rattle.core_seats.specs.Following.{HasFollowed}
 use Rattle.core_seats.proofs.Mails.{state, child_here, is_child, parent_on_child}
 use Rattle.tick_jobs.proofs.Lists.{some_once}
@@ -34,7 +34,7 @@ took m k q is =
 still_sent : (m : Mail) (k : ℕ) (q : PlainPacket) → sent (record m { ends = on_child m.ends k (taker_took q) }) k ≡ sent m k
 still_sent m k q = ap sent_by (parent_on_child m.ends k k (taker_took q))
 
-module _ (s0 : State) (m : ℕ) (seated : IsSeated s0) (inside : m < length s0.mail.ends) (idle : Idle s0 m)
+module _ (s0 : SchedulerState) (m : ℕ) (seated : IsSeated s0) (inside : m < length s0.mail.ends) (idle : Idle s0 m)
     (code : CodeParts) (places : List ℕ) (mail mail1 : Mail) (seats : List Seat) (hands : List (Option Packet)) (view : state code places mail seats hands ≡ s0)
     (p : Packet) (taking : mail1 ≡ after_take m (Some (plain_packet p)) mail) (job : Asks (plain_code mail.work.code.value) m (taken mail1 m))
     (x : Seat) (read : x ≡ slice_index_or seats (m + 1) x) (found : Option Thread) (value : found ≡ x.thread) (h : Thread) (is : found ≡ Some h) where
@@ -42,10 +42,10 @@ module _ (s0 : State) (m : ℕ) (seated : IsSeated s0) (inside : m < length s0.m
   q = plain_packet p
 
   same_code : code ≡ s0.code
-  same_code = ap (λ (s : State). s.code) view
+  same_code = ap (λ (s : SchedulerState). s.code) view
 
   same_mail : mail ≡ s0.mail
-  same_mail = ap (λ (s : State). s.mail) view
+  same_mail = ap (λ (s : SchedulerState). s.mail) view
 
   mail_is : mail1 ≡ record s0.mail { ends = on_child s0.mail.ends m (taker_took q) }
   mail_is = taking ∙ ap (after_take m (Some q)) same_mail
@@ -63,7 +63,7 @@ module _ (s0 : State) (m : ℕ) (seated : IsSeated s0) (inside : m < length s0.m
 
   seat_is : x ≡ idle.sits.seat
   seat_is =
-      read ∙ ap (λ l. slice_index_or l (m + 1) x) (ap (λ (s : State). s.seats) view) ∙ ap (λ n. slice_index_or s0.seats n x) one ∙ get_or_from_slice_get s0.seats (suc m) idle.sits.seat x idle.sits.at
+      read ∙ ap (λ l. slice_index_or l (m + 1) x) (ap (λ (s : SchedulerState). s.seats) view) ∙ ap (λ n. slice_index_or s0.seats n x) one ∙ get_or_from_slice_get s0.seats (suc m) idle.sits.seat x idle.sits.at
 
   pub same : h ≡ idle.thread
   same = some_once h idle.thread (sym is ∙ value ∙ ap (λ (z : Seat). z.thread) seat_is ∙ idle.sits.is)
@@ -89,20 +89,20 @@ module _ (s0 : State) (m : ℕ) (seated : IsSeated s0) (inside : m < length s0.m
   small_now = job_small s0 m seated inside idle p asks
 
   module _ (y : Seat) where
-    abbrev pub raw : State
+    abbrev pub raw : SchedulerState
     raw = state code places mail1 (slice_set seats (m + 1) y) hands
 
     raw_is : raw ≡ at_work s0 m seated inside idle p asks y
     raw_is =
         ap (λ z. state code places z (slice_set seats (m + 1) y) hands) taking
-        ∙ ap (λ (s : State). record s { mail = record s.mail { ends = on_child s.mail.ends m (taker_took q) }; seats = slice_set s.seats (m + 1) y }) view
+        ∙ ap (λ (s : SchedulerState). record s { mail = record s.mail { ends = on_child s.mail.ends m (taker_took q) }; seats = slice_set s.seats (m + 1) y }) view
         ∙ ap (λ n. record s0 { mail = record s0.mail { ends = on_child s0.mail.ends m (taker_took q) }; seats = slice_set s0.seats n y }) one
 
     pub raw_seated : IsSeated raw
     raw_seated = subst IsSeated (sym raw_is) (seated_work s0 m seated inside idle p asks y)
 
     pub raw_fitted : s0.mail.tells ≡ true → IsFitted raw
-    raw_fitted tells = record { seated = raw_seated; tells = ap (λ (s : State). s.mail.tells) raw_is ∙ tells }
+    raw_fitted tells = record { seated = raw_seated; tells = ap (λ (s : SchedulerState). s.mail.tells) raw_is ∙ tells }
 
     module _ (h1 : Thread) (number : h1.number ≡ h.number)
         (stands : (xs : List Exchange) (job : Job) → IsJob q job → StandsFor (plain_code code) h xs → StandsFor (plain_code code) h1 (xs ++ record { job = job; replies = [] } ∷ [])) where
@@ -123,22 +123,22 @@ module _ (s0 : State) (m : ℕ) (seated : IsSeated s0) (inside : m < length s0.m
       pub raw_followed : HasFollowed raw h1
       raw_followed = subst (λ s. HasFollowed s h1) (sym raw_is) (followed s0 m seated inside idle p asks y h1 number0 stands0)
 
-      module _ (tells : s0.mail.tells ≡ true) (turning : mail.tells ≡ true → (turn mail m ≢ 0) × (taken mail1 m ≡ sent mail1 m)) (s3 : State) (h2 : Thread) (number2 : h2.number ≡ h1.number) (loaded2 : Loaded (code_in raw) h2) (replied : HasReply h2) (above3 : QuietAbove s3 h1.number) (leaves3 : Leaves h1.number h1.number raw s3)
+      module _ (tells : s0.mail.tells ≡ true) (turning : mail.tells ≡ true → (turn mail m ≢ 0) × (taken mail1 m ≡ sent mail1 m)) (s3 : SchedulerState) (h2 : Thread) (number2 : h2.number ≡ h1.number) (loaded2 : Loaded (code_in raw) h2) (replied : HasReply h2) (above3 : QuietAbove s3 h1.number) (leaves3 : KeepsBelow h1.number h1.number raw s3)
           (done3 : (jobs : List Job) (job : Job) → InJob (code_in raw) h1 raw.mail jobs job → InJob (code_in raw) h2 s3.mail jobs job)
           (code2 : CodeParts) (places2 : List ℕ) (mail2 : Mail) (seats2 : List Seat) (hands2 : List (Option Packet)) (view2 : state code2 places2 mail2 seats2 hands2 ≡ s3) where
         all : taken s0.mail m ++ q ∷ [] ≡ sent s0.mail m
         all = sym taken1 ∙ (turning (ap (λ (z : Mail). z.tells) same_mail ∙ tells)).1 ∙ ap (λ (z : Mail). sent z m) mail_is ∙ still_sent s0.mail m q
 
         code2_is : code2 ≡ s0.code
-        code2_is = ap (λ (s : State). s.code) view2 ∙ leaves3.code ∙ same_code
+        code2_is = ap (λ (s : SchedulerState). s.code) view2 ∙ leaves3.code ∙ same_code
 
         pub reply_room : HasRoom (of_shape (plain_code code2).shape) h2.number q
         reply_room =
             subst (λ (z : CodeParts). HasRoom (of_shape (plain_code z).shape) h2.number q) (sym code2_is)
             (subst (λ n. HasRoom (of_shape (code_in s0).shape) n q) (sym (number2 ∙ number1)) (job_room s0 m seated inside idle p asks))
 
-        module _ (p' : Packet) (room' : HasRoom (of_shape (plain_code code2).shape) h2.number (plain_packet p')) (kind' : Replies_by h2 p'.kind)
-            (gives : (xs : List Exchange) → StandsFor (plain_code code2) h2 xs → Gives (plain_code code2) h2.number xs (plain_packet p')) where
+        module _ (p' : Packet) (room' : HasRoom (of_shape (plain_code code2).shape) h2.number (plain_packet p')) (kind' : RepliesByKind h2 p'.kind)
+            (gives : (xs : List Exchange) → StandsFor (plain_code code2) h2 xs → RepliesToLast (plain_code code2) h2.number xs (plain_packet p')) where
           abbrev q' : PlainPacket
           q' = plain_packet p'
 
@@ -154,37 +154,37 @@ module _ (s0 : State) (m : ℕ) (seated : IsSeated s0) (inside : m < length s0.m
           above4 : QuietAbove s3 (suc m)
           above4 = subst (QuietAbove s3) number1 above3
 
-          leaves4 : Leaves (suc m) (suc m) (at_work s0 m seated inside idle p asks y) s3
-          leaves4 = subst (λ s. Leaves (suc m) (suc m) s s3) raw_is (subst (λ n. Leaves n n raw s3) number1 leaves3)
+          leaves4 : KeepsBelow (suc m) (suc m) (at_work s0 m seated inside idle p asks y) s3
+          leaves4 = subst (λ s. KeepsBelow (suc m) (suc m) s s3) raw_is (subst (λ n. KeepsBelow n n raw s3) number1 leaves3)
 
           room4 : HasRoom (of_shape (code_in s0).shape) (suc m) q'
           room4 = subst (λ n. HasRoom (of_shape (code_in s0).shape) n q') (number2 ∙ number1) (subst (λ (z : CodeParts). HasRoom (of_shape (plain_code z).shape) h2.number q') code2_is room')
 
-          gives4 : (xs : List Exchange) → StandsFor (code_in s0) h2 xs → Gives (code_in s0) h2.number xs q'
+          gives4 : (xs : List Exchange) → StandsFor (code_in s0) h2 xs → RepliesToLast (code_in s0) h2.number xs q'
           gives4 xs st =
-              subst (λ (z : CodeParts). Gives (plain_code z) h2.number xs q') code2_is (gives xs (subst (λ (z : CodeParts). StandsFor (plain_code z) h2 xs) (sym code2_is) st))
+              subst (λ (z : CodeParts). RepliesToLast (plain_code z) h2.number xs q') code2_is (gives xs (subst (λ (z : CodeParts). StandsFor (plain_code z) h2 xs) (sym code2_is) st))
 
           pub answer_held : ChildIs mail2 m true
           answer_held =
-              subst (λ (z : Mail). ChildIs z m true) (sym (ap (λ (s : State). s.mail) view2))
+              subst (λ (z : Mail). ChildIs z m true) (sym (ap (λ (s : SchedulerState). s.mail) view2))
               (holds3 s0 m seated inside idle p asks y h1 number0 stands0 all s3 h2 number2 loaded3 replied above4 leaves4 in_done p' room4 kind' gives4)
 
           pub answer_answers : Replies (plain_code mail2.work.code.value) m (taken mail2 m) q'
           answer_answers =
               let work : mail2.work.code.value ≡ s0.code =
-              ap (λ (s : State). s.mail.work.code.value) view2 ∙ ap (λ w. w.code.value) leaves3.alike.work ∙ ap (λ (s : State). s.mail.work.code.value) raw_is ∙ seated.work in
+              ap (λ (s : SchedulerState). s.mail.work.code.value) view2 ∙ ap (λ w. w.code.value) leaves3.alike.work ∙ ap (λ (s : SchedulerState). s.mail.work.code.value) raw_is ∙ seated.work in
               subst (λ (z : CodeParts). Replies (plain_code z) m (taken mail2 m) q') (sym work)
-              (subst (λ l. Replies (code_in s0) m l q') (sym (ap (λ (s : State). taken s.mail m) view2))
+              (subst (λ l. Replies (code_in s0) m l q') (sym (ap (λ (s : SchedulerState). taken s.mail m) view2))
               (its_replies s0 m seated inside idle p asks y h1 number0 stands0 all s3 h2 number2 loaded3 replied above4 leaves4 in_done p' room4 kind' gives4))
 
           module _ (z : Seat) (sits : z.thread ≡ Some h2) (vacant : z.job ≡ None) (mail3 : Mail) (answering : mail3 ≡ after_answer m q' mail2) where
-            abbrev pub raw_end : State
+            abbrev pub raw_end : SchedulerState
             raw_end = state code2 places2 mail3 (slice_set seats2 (m + 1) z) hands2
 
             raw_end_is : raw_end ≡ at_end s0 m seated inside idle p asks y h1 number0 stands0 all s3 h2 number2 loaded3 replied above4 leaves4 in_done p' room4 kind' gives4 z sits vacant
             raw_end_is =
                 ap (λ w. state code2 places2 w (slice_set seats2 (m + 1) z) hands2) answering
-                ∙ ap (λ (s : State). record s { mail = record s.mail { ends = on_child s.mail.ends m (taker_answered q') }; seats = slice_set s.seats (m + 1) z }) view2
+                ∙ ap (λ (s : SchedulerState). record s { mail = record s.mail { ends = on_child s.mail.ends m (taker_answered q') }; seats = slice_set s.seats (m + 1) z }) view2
                 ∙ ap (λ n. record s3 { mail = record s3.mail { ends = on_child s3.mail.ends m (taker_answered q') }; seats = slice_set s3.seats n z }) one
 
             pub end_back : LacksPacket s0 m → IsBack raw_end m
@@ -197,7 +197,7 @@ module _ (s0 : State) (m : ℕ) (seated : IsSeated s0) (inside : m < length s0.m
                 subst (λ s. QuietAbove s (suc m)) (sym raw_end_is)
                 (above_end s0 m seated inside idle p asks y h1 number0 stands0 all s3 h2 number2 loaded3 replied above4 leaves4 in_done p' room4 kind' gives4 z sits vacant)
 
-            pub end_leaves : Leaves (suc m) m s0 raw_end
+            pub end_leaves : KeepsBelow (suc m) m s0 raw_end
             end_leaves =
-                subst (Leaves (suc m) m s0) (sym raw_end_is)
+                subst (KeepsBelow (suc m) m s0) (sym raw_end_is)
                 (leaves_all s0 m seated inside idle p asks y h1 number0 stands0 all s3 h2 number2 loaded3 replied above4 leaves4 in_done p' room4 kind' gives4 z sits vacant)

@@ -16,7 +16,7 @@ use Rattle.copy_slots.specs.Ports.{parent_at, child_at, sent_by, taken_by, answe
 use Rattle.core_seats.specs.Asking.{Replies, ArePaused, MayFollow, Asks}
 use Rattle.core_seats.specs.Posts.{Mail}
 use Rattle.tick_jobs.specs.Branches.{IsBranchOf}
-use Rattle.core_seats.specs.Keeping.{State, code_in, IsSeated, reply, HasPacket, LacksPacket, Quiet, IsCalled, IsBack, MayAsk}
+use Rattle.core_seats.specs.Keeping.{SchedulerState, code_in, IsSeated, reply, HasPacket, LacksPacket, Quiet, IsCalled, IsBack, MayAsk}
 use Rattle.core_seats.specs.Moving.{ChangesPacket, HasSent, HasGot, HasLooked}
 use Rattle.core_seats.proofs.Mails.{with_parent, moves_parent, moves_then, parent_now, place_now, sent_now, got_now, sent_before, got_before, is_parent, is_child, extends_same, extends_one}
 use Rattle.tick_jobs.proofs.Lists.{get_set, get_set_else}
@@ -36,12 +36,12 @@ follows c m m' k q (Wake values a) is same may = subst (MayFollow c k (sent m' k
 pub asks_now : (c : PlainCode) (m m' : Mail) (k : ℕ) (q : PlainPacket) (j : Job) → IsJob q j → sent m' k ≡ sent m k → MayAsk c m k j → HasRoom (of_shape c.shape) (suc k) q → q.allowance ≤ 2 ^ 62 → Asks c k (sent m' k ++ q ∷ [])
 asks_now c m m' k q j is same may room small = record { before = sent m' k; last = q; are = refl; job = j; is = is; room = room; small = small; follows = follows c m m' k q j is same may }
 
-module _ (s0 s1 : State) (k : ℕ) (moves : ChangesPacket k s0 s1) (held : ParentIs s1.mail k Held) (empty : slice_get s1.hands k ≡ Some None)
+module _ (s0 s1 : SchedulerState) (k : ℕ) (moves : ChangesPacket k s0 s1) (held : ParentIs s1.mail k Held) (empty : slice_get s1.hands k ≡ Some None)
     (same_sent : sent s1.mail k ≡ sent s0.mail k) (same_got : got s1.mail k ≡ got s0.mail k) (q : PlainPacket) where
   sender : (x : Sender PlainPacket) × (parent_at s1.mail.ends k ≡ Some x) × (x.place ≡ Held)
   sender = is_parent (parent_at s1.mail.ends k) Held held
 
-  abbrev pub after_sent : State
+  abbrev pub after_sent : SchedulerState
   after_sent = with_parent s1 k (sender_sent q) s1.hands
 
   pub sent_moves : ChangesPacket k s0 after_sent
@@ -62,7 +62,7 @@ module _ (s0 s1 : State) (k : ℕ) (moves : ChangesPacket k s0 s1) (held : Paren
   has_sent job is = record { packet = q; is = is; sent = now_sent; got = now_got }
 
 -- a branch at which nothing was under way is called
-pub called_now : (s0 s1 : State) (k : ℕ) → IsSeated s0 → k < length s0.mail.ends → Quiet s0 k → ChangesPacket k s0 s1 → LacksPacket s1 k → (job : Job) → HasSent s0 s1 k job → IsCalled s1 k
+pub called_now : (s0 s1 : SchedulerState) (k : ℕ) → IsSeated s0 → k < length s0.mail.ends → Quiet s0 k → ChangesPacket k s0 s1 → LacksPacket s1 k → (job : Job) → HasSent s0 s1 k job → IsCalled s1 k
 called_now s0 s1 k seated inside quiet moves lacks job sent = record {
   idle = moved_idle s0 s1 k moves k (own_branch (code_in s0) seated.valid k (omega (arith, inside, seated.mailboxes))) quiet.idle;
   lacks = lacks;
@@ -72,12 +72,12 @@ called_now s0 s1 k seated inside quiet moves lacks job sent = record {
 
 -- ---- a reply
 
-module _ (s : State) (k : ℕ) (seated : IsSeated s) (inside : k < length s.mail.ends) (lacks : LacksPacket s k) where
+module _ (s : SchedulerState) (k : ℕ) (seated : IsSeated s) (inside : k < length s.mail.ends) (lacks : LacksPacket s k) where
   sender2 : (x : Sender PlainPacket) × (parent_at s.mail.ends k ≡ Some x) × (x.place ≡ Out)
   sender2 = is_parent (parent_at s.mail.ends k) Out lacks.out
 
   module _ (p : Packet) (replies : Replies (code_in s) k (sent s.mail k) (plain_packet p)) where
-    abbrev pub after_got : State
+    abbrev pub after_got : SchedulerState
     after_got = with_parent s k (sender_got (plain_packet p)) (slice_set s.hands k (Some p))
 
     pub got_moves : ChangesPacket k s after_got
@@ -99,7 +99,7 @@ module _ (s : State) (k : ℕ) (seated : IsSeated s) (inside : k < length s.mail
           ∙ ap (λ l. l ++ plain_packet p ∷ []) (sym (got_before s k (sender_got (plain_packet p)) (slice_set s.hands k (Some p)) sender2.0 sender2.1));
     }
 
-  abbrev pub after_looked : State
+  abbrev pub after_looked : SchedulerState
   after_looked = with_parent s k sender_looked s.hands
 
   pub looked_moves : ChangesPacket k s after_looked
@@ -117,7 +117,7 @@ module _ (s : State) (k : ℕ) (seated : IsSeated s) (inside : k < length s.mail
   }
 
 -- the packet is back in its parent's hand
-pub got_packet : (s s1 : State) (k : ℕ) → ChangesPacket k s s1 → HasGot s s1 k → HasPacket s1 k
+pub got_packet : (s s1 : SchedulerState) (k : ℕ) → ChangesPacket k s s1 → HasGot s s1 k → HasPacket s1 k
 got_packet s s1 k moves got = record {
   hand = Some got.packet;
   at = got.at;
@@ -125,7 +125,7 @@ got_packet s s1 k moves got = record {
 }
 
 -- nothing is under way any more at a branch that is back
-pub quiet_now : (s s1 : State) (k : ℕ) → IsSeated s → k < length s.mail.ends → IsBack s k → ChangesPacket k s s1 → HasGot s s1 k → Quiet s1 k
+pub quiet_now : (s s1 : SchedulerState) (k : ℕ) → IsSeated s → k < length s.mail.ends → IsBack s k → ChangesPacket k s s1 → HasGot s s1 k → Quiet s1 k
 quiet_now s s1 k seated inside back moves got = record {
   idle = moved_idle s s1 k moves k (own_branch (code_in s) seated.valid k (omega (arith, inside, seated.mailboxes))) back.idle;
   all = ap taken_by (moves.children k) ∙ back.all ∙ sym got.sent;
@@ -133,7 +133,7 @@ quiet_now s s1 k seated inside back moves got = record {
 }
 
 -- it is the parent's turn
-pub back_turn : (s : State) (k : ℕ) → IsBack s k → turn s.mail k ≡ 0
+pub back_turn : (s : SchedulerState) (k : ℕ) → IsBack s k → turn s.mail k ≡ 0
 back_turn s k back =
     let x = is_parent (parent_at s.mail.ends k) Out back.lacks.out in
     let y = is_child (child_at s.mail.ends k) false back.idle.child in

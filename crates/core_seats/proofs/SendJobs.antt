@@ -10,7 +10,7 @@ use Rattle.core_machine.specs.Forks.{jobs_at}
 use Rattle.copy_slots.specs.Ports.{sent_by, sent, got}
 use Rattle.tick_jobs.specs.Branches.{IsBranchOf}
 use Rattle.core_seats.specs.Changes.{Extends}
-use Rattle.core_seats.specs.Keeping.{State, code_in, IsSeated, HasPacket, LacksPacket, IsJobFor, AtFork, CanSend}
+use Rattle.core_seats.specs.Keeping.{SchedulerState, code_in, IsSeated, HasPacket, LacksPacket, IsJobFor, AtFork, CanSend}
 use Rattle.core_seats.specs.Moving.{ChangesPacket, HasSent}
 use Rattle.core_seats.specs.Waiting.{HasTold}
 use Rattle.core_seats.specs.Serving.{ChangesBranches}
@@ -25,7 +25,7 @@ use Rattle.core_seats.proofs.OneMoreExchange.{changed_is, told_one}
 
 -- ---- changes of a thread's branches
 
-pub branches_same : (t : ℕ) (a : State) → ChangesBranches t a a
+pub branches_same : (t : ℕ) (a : SchedulerState) → ChangesBranches t a a
 branches_same t a = record {
   code = refl;
   places = refl;
@@ -38,7 +38,7 @@ branches_same t a = record {
   hand_count = refl;
 }
 
-pub branches_then : (t : ℕ) (a b c : State) → ChangesBranches t a b → ChangesBranches t b c → ChangesBranches t a c
+pub branches_then : (t : ℕ) (a b c : SchedulerState) → ChangesBranches t a b → ChangesBranches t b c → ChangesBranches t a c
 branches_then t a b c h g =
     let there = λ (j : ℕ) (n : IsBranchOf (code_in a).shape t j → ⊥) (is : IsBranchOf (code_in b).shape t j). n (subst (λ x. IsBranchOf (plain_code x).shape t j) h.code is) in
     record {
@@ -53,11 +53,11 @@ branches_then t a b c h g =
       hand_count = g.hand_count ∙ h.hand_count;
     }
 
-pub branches_seated : (t : ℕ) (a b : State) → ChangesBranches t a b → IsSeated a → IsSeated b
+pub branches_seated : (t : ℕ) (a b : SchedulerState) → ChangesBranches t a b → IsSeated a → IsSeated b
 branches_seated t a b h seated = seated_by a b h.code h.places h.alike (ap length h.seats) h.hand_count seated
 
 -- one of them
-pub branch_moves : (t m : ℕ) (a b : State) → IsBranchOf (code_in a).shape t m → (moves : ChangesPacket m a b) → Extends (sent a.mail m) (sent b.mail m) × Extends (got a.mail m) (got b.mail m) → ChangesBranches t a b
+pub branch_moves : (t m : ℕ) (a b : SchedulerState) → IsBranchOf (code_in a).shape t m → (moves : ChangesPacket m a b) → Extends (sent a.mail m) (sent b.mail m) × Extends (got a.mail m) (got b.mail m) → ChangesBranches t a b
 branch_moves t m a b mine moves grown =
     let other = λ (j : ℕ) (n : IsBranchOf (code_in a).shape t j → ⊥) (e : j ≡ m). n (subst (IsBranchOf (code_in a).shape t) (sym e) mine) in
     record {
@@ -75,7 +75,7 @@ branch_moves t m a b mine moves grown =
 -- ---- one job after the other
 
 -- the first k jobs of the fork were sent
-pub record HasSentFirst (a b : State) (h : Thread) (k : ℕ) : Type 0 where
+pub record HasSentFirst (a b : SchedulerState) (h : Thread) (k : ℕ) : Type 0 where
   pub within : k ≤ length h.branches.numbers
   pub moves : ChangesBranches h.number a b
   pub told : (pairs : List Answered) → HasTold a h.number pairs [] → HasTold b h.number pairs (take k (jobs_at (code_in a) h))
@@ -85,7 +85,7 @@ take_none : {A : Type 0} (l : List A) → take 0 l ≡ []
 take_none [] = refl
 take_none (x ∷ l) = refl
 
-pub sent_none : (a : State) (h : Thread) → AtFork a h → HasSentFirst a a h 0
+pub sent_none : (a : SchedulerState) (h : Thread) → AtFork a h → HasSentFirst a a h 0
 sent_none a h fork = record {
   within = omega arith;
   moves = branches_same h.number a;
@@ -93,7 +93,7 @@ sent_none a h fork = record {
   rest = λ i w le at. fork.each i w at;
 }
 
-module _ (a b : State) (h : Thread) (k number : ℕ) (seated : IsSeated a) (fork : AtFork a h) (some : (pairs : List Answered) × HasTold a h.number pairs []) (done : HasSentFirst a b h k) (at : slice_get h.branches.numbers k ≡ Some number) where
+module _ (a b : SchedulerState) (h : Thread) (k number : ℕ) (seated : IsSeated a) (fork : AtFork a h) (some : (pairs : List Answered) × HasTold a h.number pairs []) (done : HasSentFirst a b h k) (at : slice_get h.branches.numbers k ≡ Some number) where
   abbrev ws : List Written
   ws = jobs_at (code_in a) h
 
@@ -122,7 +122,7 @@ module _ (a b : State) (h : Thread) (k number : ℕ) (seated : IsSeated a) (fork
   its_packet =
       (done.told some.0 some.1).has m (inside_m a b done.moves.code seated_b h k number fork done.rest at) mine (not_yet a b done.moves.code seated_b h k number fork done.rest at)
 
-  module _ (s1 : State) (moves : ChangesPacket m b s1) (lacks : LacksPacket s1 m) (sent_now : (w : Written) → slice_get (jobs_at (code_in b) h) k ≡ Some w → HasSent b s1 m w.job) where
+  module _ (s1 : SchedulerState) (moves : ChangesPacket m b s1) (lacks : LacksPacket s1 m) (sent_now : (w : Written) → slice_get (jobs_at (code_in b) h) k ≡ Some w → HasSent b s1 m w.job) where
     sent1 : HasSent b s1 m the_job.0.job
     sent1 = sent_now the_job.0 (subst (λ x. slice_get (jobs_at (plain_code x) h) k ≡ Some the_job.0) (sym done.moves.code) the_job.1)
 
@@ -155,7 +155,7 @@ module _ (a b : State) (h : Thread) (k number : ℕ) (seated : IsSeated a) (fork
     }
 
 -- all were sent
-pub all_sent : (a b : State) (h : Thread) (k : ℕ) → AtFork a h → HasSentFirst a b h k → length h.branches.numbers ≤ k → (pairs : List Answered) → HasTold a h.number pairs [] → HasTold b h.number pairs (jobs_at (code_in a) h)
+pub all_sent : (a b : SchedulerState) (h : Thread) (k : ℕ) → AtFork a h → HasSentFirst a b h k → length h.branches.numbers ≤ k → (pairs : List Answered) → HasTold a h.number pairs [] → HasTold b h.number pairs (jobs_at (code_in a) h)
 all_sent a b h k fork done past pairs told =
     let count = ap length fork.numbers ∙ length-map (jobs_at (code_in a) h) (λ w. w.branch) in
     subst (HasTold b h.number pairs) (take_all (jobs_at (code_in a) h) k (omega (arith, past, count))) (done.told pairs told)

@@ -13,8 +13,8 @@ use Rattle.core_seats.specs.declared.seat.Seat.{Seat}
 use Rattle.core_seats.specs.Posts.{Mail}
 use Rattle.tick_jobs.specs.Branches.{IsBranchOf}
 use Rattle.core_seats.specs.Changes.{Extends, Looked, Grown, IsIdle}
-use Rattle.core_seats.specs.Keeping.{State, code_in, Alike, IsSeated, Quiet}
-use Rattle.core_seats.specs.Waiting.{HasChild, IsAtRest, WaitsAt, IsBetween, IsVacant, rests, waits}
+use Rattle.core_seats.specs.Keeping.{SchedulerState, code_in, KeepsPort, IsSeated, Quiet}
+use Rattle.core_seats.specs.Waiting.{HasChild, IsAtRest, WaitsAt, RestsOrWaits, IsVacant, rests, waits}
 use Rattle.core_seats.specs.Serving.{Touches, OnlyLooks, HasMissed, AllMissed, KeepsServing}
 use Rattle.core_seats.proofs.Mails.{alike_then, extends_same}
 use Rattle.tick_jobs.proofs.Lists.{by_equal, some_once}
@@ -24,7 +24,7 @@ use Rattle.core_seats.proofs.Seats.{vacant_by, not_vacant}
 
 -- ---- a thread at rest has no job in its hand, and one that waits has
 
-module _ (s : State) (m : ℕ) (x : Seat) (read : x ≡ slice_index_or s.seats (m + 1) x) where
+module _ (s : SchedulerState) (m : ℕ) (x : Seat) (read : x ≡ slice_index_or s.seats (m + 1) x) where
   one : m + 1 ≡ suc m
   one = omega arith
 
@@ -39,11 +39,11 @@ module _ (s : State) (m : ℕ) (x : Seat) (read : x ≡ slice_index_or s.seats (
   a_job None p e t = cc
   a_job (Some q) p e t = cc
 
-  pub it_waits : IsBetween s m → is_some x.job ≡ true → WaitsAt s m
+  pub it_waits : RestsOrWaits s m → is_some x.job ≡ true → WaitsAt s m
   it_waits (waits w) t = w
   it_waits (rests r) t = absurd (no_job x.job (ap (λ (z : Seat). z.job) (seat_of r.idle.sits.seat r.idle.sits.at) ∙ r.idle.free) t)
 
-  pub it_rests : IsBetween s m → is_some x.job ≡ false → IsAtRest s m
+  pub it_rests : RestsOrWaits s m → is_some x.job ≡ false → IsAtRest s m
   it_rests (rests r) t = r
   it_rests (waits w) t = absurd (a_job x.job w.packet (ap (λ (z : Seat). z.job) (seat_of w.sits.seat w.sits.at) ∙ w.holds) t)
 
@@ -56,14 +56,14 @@ both_held (Some z) e f = never z.holds e f
     never : (b : Bool) → b ≡ false → b ≡ true → ⊥
     never b e f = let g = sym e ∙ f in cc
 
-pub quiet_waits : (s : State) (m : ℕ) → Quiet s m → WaitsAt s m → ⊥
+pub quiet_waits : (s : SchedulerState) (m : ℕ) → Quiet s m → WaitsAt s m → ⊥
 quiet_waits s m q w =
     let n = w.waiting.work.number in
     let k = w.sits.number in
     let at : w.waiting.work.mailbox ≡ m = omega (arith, n, k) in
     both_held (child_at s.mail.ends m) q.idle.child (subst (λ i. ChildIs s.mail i true) at w.waiting.work.child)
 
-pub quiet_looks : (k : ℕ) (a b : State) → OnlyLooks k a b → (j : ℕ) → Quiet a j → Quiet b j
+pub quiet_looks : (k : ℕ) (a b : SchedulerState) → OnlyLooks k a b → (j : ℕ) → Quiet a j → Quiet b j
 quiet_looks k a b l j q =
     quiet_keeps j a b
     (record {
@@ -78,7 +78,7 @@ quiet_looks k a b l j q =
 
 -- ---- one mailbox
 
-pub between_child : (s : State) (k : ℕ) → IsBetween s k → HasChild s.mail k
+pub between_child : (s : SchedulerState) (k : ℕ) → RestsOrWaits s k → HasChild s.mail k
 between_child s k (rests r) = (false, r.idle.child)
 between_child s k (waits w) =
     let n = w.waiting.work.number in
@@ -88,7 +88,7 @@ between_child s k (waits w) =
 pub child_keeps : (a b : Mail) (j : ℕ) → child_at b.ends j ≡ child_at a.ends j → HasChild a j → HasChild b j
 child_keeps a b j e h = (h.0, subst (λ (o : Option (Taker PlainPacket)). IsChild o h.0) (sym e) h.1)
 
-pub keeps_one : (k : ℕ) (a b : State) → IsSeated a → k < length a.mail.ends → IsBetween a k → Touches k a b → IsBetween b k → (a.mail.tells ≡ true → Quiet a k → OnlyLooks k a b) → KeepsServing a b
+pub keeps_one : (k : ℕ) (a b : SchedulerState) → IsSeated a → k < length a.mail.ends → RestsOrWaits a k → Touches k a b → RestsOrWaits b k → (a.mail.tells ≡ true → Quiet a k → OnlyLooks k a b) → KeepsServing a b
 keeps_one k a b seated inside before t after looks = record {
   code = t.code;
   places = t.places;
@@ -101,7 +101,7 @@ keeps_one k a b seated inside before t after looks = record {
   hands = λ j mine. t.hands j (not_root j mine);
   here = λ j h. by_equal j k (λ n. child_keeps a.mail b.mail j (t.children j n) h) (λ e. subst (HasChild b.mail) (sym e) (between_child b k after));
   was_here = λ j h. by_equal j k (λ n. child_keeps b.mail a.mail j (sym (t.children j n)) h) (λ e. subst (HasChild a.mail) (sym e) (between_child a k before));
-  between = λ j h. by_equal j k (λ n. between_still a b k t j n h) (λ e. subst (IsBetween b) (sym e) after);
+  between = λ j h. by_equal j k (λ n. between_still a b k t j n h) (λ e. subst (RestsOrWaits b) (sym e) after);
   vacant = λ j v. by_equal j k (λ n. vacant_by a b (suc j) (t.seats (suc j) (λ e. n (omega (arith, e)))) v) (λ e. absurd (not_vacant a k before (subst (λ i. IsVacant a (suc i)) e v)));
   quiet = λ tells quiet j lt. quiet_looks k a b (looks tells (quiet k inside)) j (quiet j lt);
 }
@@ -109,7 +109,7 @@ keeps_one k a b seated inside before t after looks = record {
     not_root : (j : ℕ) → IsBranchOf (code_in a).shape 0 j → IsBranchOf (code_in a).shape (suc k) j → ⊥
     not_root j mine is = let e = some_once 0 (suc k) (sym mine ∙ is) in absurd (omega (arith, e))
 
-pub keeps_same : (a : State) → KeepsServing a a
+pub keeps_same : (a : SchedulerState) → KeepsServing a a
 keeps_same a = record {
   code = refl;
   places = refl;
@@ -128,11 +128,11 @@ keeps_same a = record {
 }
 
 -- a port that stores, or has loaded, a stop word
-module _ (s : State) (stored : Bool) (stops : List ℕ) (more : Extends s.mail.stops stops) where
-  abbrev watched : State
+module _ (s : SchedulerState) (stored : Bool) (stops : List ℕ) (more : Extends s.mail.stops stops) where
+  abbrev watched : SchedulerState
   watched = record s { mail = record s.mail { stored = stored; stops = stops } }
 
-  watched_alike : Alike s.mail watched.mail
+  watched_alike : KeepsPort s.mail watched.mail
   watched_alike = record { work = refl; blanks = refl; tells = refl; root = refl; count = refl; stops = more }
 
   pub keeps_watch : KeepsServing s watched
@@ -161,7 +161,7 @@ module _ (s : State) (stored : Bool) (stops : List ℕ) (more : Extends s.mail.s
     quiet = λ tells q j lt. quiet_keeps j s watched (record { code = refl; seat = refl; child = same_child j s.mail watched.mail refl; branches = λ i mine. refl }) (record { parent = refl; hand = refl; blanks = refl }) (q j lt);
   }
 
-pub keeps_then : (a b c : State) → KeepsServing a b → KeepsServing b c → KeepsServing a c
+pub keeps_then : (a b c : SchedulerState) → KeepsServing a b → KeepsServing b c → KeepsServing a c
 keeps_then a b c h g = record {
   code = g.code ∙ h.code;
   places = g.places ∙ h.places;
@@ -181,7 +181,7 @@ keeps_then a b c h g = record {
       g.quiet (h.alike.tells ∙ tells) (λ i less. h.quiet tells quiet i (omega (arith, less, count))) j (omega (arith, lt, count));
 }
 
-pub keeps_seated : (a b : State) → KeepsServing a b → IsSeated a → IsSeated b
+pub keeps_seated : (a b : SchedulerState) → KeepsServing a b → IsSeated a → IsSeated b
 keeps_seated a b h seated = seated_by a b h.code h.places h.alike h.seat_count h.hand_count seated
 
 -- ---- nothing to do
@@ -197,7 +197,7 @@ idle_from s a b c k grown i = record {
     looked_from : (l m n : List ℕ) (w : ℕ) → Extends l m → Looked w m n → Looked w l n
     looked_from l m n w e h = record { words = e.more ++ h.words; is = h.is ∙ ap (λ z. (z ++ h.words) ++ w ∷ []) e.is ∙ ap (λ z. z ++ w ∷ []) (append_assoc l e.more h.words) }
 
-idle_else : (before : Mail) (k j : ℕ) (a b : State) → Touches k a b → j ≢ k → IsIdle (code_in a).shape before a.mail j → IsIdle (code_in a).shape before b.mail j
+idle_else : (before : Mail) (k j : ℕ) (a b : SchedulerState) → Touches k a b → j ≢ k → IsIdle (code_in a).shape before a.mail j → IsIdle (code_in a).shape before b.mail j
 idle_else before k j a b t other i = record {
   rests = λ rest. subst (λ l. Looked 0 (looked_by_child before j) l) (sym (ap words_of_child same)) (i.rests (subst (λ (o : Option (Taker PlainPacket)). IsChild o false) same rest));
   forked = λ holds.
@@ -215,16 +215,16 @@ idle_else before k j a b t other i = record {
     apart : suc j ≡ suc k → ⊥
     apart e = other (omega (arith, e))
 
-pub missed_one : (k : ℕ) (a b : State) → Touches k a b → HasMissed k a b → AllMissed a b
+pub missed_one : (k : ℕ) (a b : SchedulerState) → Touches k a b → HasMissed k a b → AllMissed a b
 missed_one k a b t m = record {
   answered = λ j. by_equal j k (λ n. ap answered_by (t.children j n)) (λ e. subst (λ i. answered b.mail i ≡ answered a.mail i) (sym e) m.answered);
   still = λ before j grown idle. by_equal j k (λ n. idle_else before k j a b t n idle) (λ e. subst (IsIdle (code_in a).shape before b.mail) (sym e) (idle_from (code_in a).shape before a.mail b.mail k grown m.idle));
 }
 
-pub missed_same : (a : State) → AllMissed a a
+pub missed_same : (a : SchedulerState) → AllMissed a a
 missed_same a = record { answered = λ k. refl; still = λ before k grown idle. idle }
 
-pub missed_then : (a b c : State) → b.code ≡ a.code → Grown a.mail b.mail → AllMissed a b → AllMissed b c → AllMissed a c
+pub missed_then : (a b c : SchedulerState) → b.code ≡ a.code → Grown a.mail b.mail → AllMissed a b → AllMissed b c → AllMissed a c
 missed_then a b c code grown h g = record {
   answered = λ k. g.answered k ∙ h.answered k;
   still = λ before k old idle.
@@ -234,15 +234,15 @@ missed_then a b c code grown h g = record {
 
 -- ---- the first mailboxes
 
-pub record HasMissedFirst (a b : State) (mailboxes : List ℕ) (n : ℕ) : Type 0 where
+pub record HasMissedFirst (a b : SchedulerState) (mailboxes : List ℕ) (n : ℕ) : Type 0 where
   pub keeps : KeepsServing a b
   pub missed : AllMissed a b
   pub idle : (i k : ℕ) → i < n → slice_get mailboxes i ≡ Some k → IsIdle (code_in a).shape a.mail b.mail k
 
-pub missed_none : (a : State) (mailboxes : List ℕ) → HasMissedFirst a a mailboxes 0
+pub missed_none : (a : SchedulerState) (mailboxes : List ℕ) → HasMissedFirst a a mailboxes 0
 missed_none a mailboxes = record { keeps = keeps_same a; missed = missed_same a; idle = λ i k lt at. absurd (omega (arith, lt)) }
 
-pub missed_more : (a b c : State) (mailboxes : List ℕ) (n k : ℕ) → IsSeated a → k < length a.mail.ends → HasMissedFirst a b mailboxes n → slice_get mailboxes n ≡ Some k → IsBetween b k → Touches k b c → IsBetween c k →
+pub missed_more : (a b c : SchedulerState) (mailboxes : List ℕ) (n k : ℕ) → IsSeated a → k < length a.mail.ends → HasMissedFirst a b mailboxes n → slice_get mailboxes n ≡ Some k → RestsOrWaits b k → Touches k b c → RestsOrWaits c k →
     (b.mail.tells ≡ true → Quiet b k → OnlyLooks k b c) → HasMissed k b c → HasMissedFirst a c mailboxes (suc n)
 missed_more a b c mailboxes n k seated inside done at before t after looks m =
     let one = missed_one k b c t m in

@@ -12,16 +12,16 @@ use Rattle.copy_slots.specs.Ports.{parent_at, child_at, sent_by, got_by, taken_b
 use Rattle.core_seats.specs.declared.seat.Seat.{Seat}
 use Rattle.core_seats.specs.Posts.{Mail, AreReplies}
 use Rattle.tick_jobs.specs.Branches.{IsBranchOf, replies_to}
-use Rattle.core_seats.specs.Keeping.{State, code_in, Alike, HasPacket, HasHeard}
-use Rattle.core_seats.specs.Waiting.{jobs_out, HasTold, IsForked, IsGathering, IsAtWork, IsWaiting, IsAtRest, WaitsAt, IsBetween, rests, waits}
+use Rattle.core_seats.specs.Keeping.{SchedulerState, code_in, KeepsPort, HasPacket, HasHeard}
+use Rattle.core_seats.specs.Waiting.{jobs_out, HasTold, IsForked, IsGathering, IsAtWork, IsWaiting, IsAtRest, WaitsAt, RestsOrWaits, rests, waits}
 use Rattle.core_seats.specs.Serving.{ChangesBranches, Touches}
 use Rattle.core_seats.proofs.KeepingLemmas.{same_child, idle_keeps, packet_keeps}
 use Rattle.tick_jobs.proofs.Branching.{parent_once}
 use Rattle.tick_jobs.proofs.Lists.{at_map}
 use Rattle.core_seats.proofs.OneMoreExchange.{changed, changed_is, lacks_keeps}
 
-module _ (a : State) (mail : Mail) (seats : List Seat) (hands : List (Option Packet)) (blanks : mail.blanks ≡ a.mail.blanks) (count : length mail.ends ≡ length a.mail.ends) where
-  abbrev b : State
+module _ (a : SchedulerState) (mail : Mail) (seats : List Seat) (hands : List (Option Packet)) (blanks : mail.blanks ≡ a.mail.blanks) (count : length mail.ends ≡ length a.mail.ends) where
+  abbrev b : SchedulerState
   b = changed a mail seats hands
 
   pub has_keeps : (k : ℕ) → parent_at mail.ends k ≡ parent_at a.mail.ends k → slice_get hands k ≡ slice_get a.hands k → HasPacket a k → HasPacket b k
@@ -91,7 +91,7 @@ module _ (a : State) (mail : Mail) (seats : List Seat) (hands : List (Option Pac
 
 -- ---- the seat, the mailbox and the branches of thread j + 1 stay
 
-module _ (a b : State) (code : b.code ≡ a.code) (places : b.places ≡ a.places) (alike : Alike a.mail b.mail) (j : ℕ) (seat : slice_get b.seats (suc j) ≡ slice_get a.seats (suc j)) (child : child_at b.mail.ends j ≡ child_at a.mail.ends j)
+module _ (a b : SchedulerState) (code : b.code ≡ a.code) (places : b.places ≡ a.places) (alike : KeepsPort a.mail b.mail) (j : ℕ) (seat : slice_get b.seats (suc j) ≡ slice_get a.seats (suc j)) (child : child_at b.mail.ends j ≡ child_at a.mail.ends j)
     (parents : (i : ℕ) → IsBranchOf (code_in a).shape (suc j) i → parent_at b.mail.ends i ≡ parent_at a.mail.ends i) (hands : (i : ℕ) → IsBranchOf (code_in a).shape (suc j) i → slice_get b.hands i ≡ slice_get a.hands i) where
   path : changed a b.mail b.seats b.hands ≡ b
   path = changed_is a b code places
@@ -114,12 +114,12 @@ module _ (a b : State) (code : b.code ≡ a.code) (places : b.places ≡ a.place
             (subst (λ i. child_at b.mail.ends i ≡ child_at a.mail.ends i) (sym at) child);
       })
 
-  pub between_keeps : IsBetween a j → IsBetween b j
+  pub between_keeps : RestsOrWaits a j → RestsOrWaits b j
   between_keeps (rests r) = rests (rests_still r)
   between_keeps (waits w) = waits (waits_still w)
 
 -- another mailbox was served
-pub between_still : (a b : State) (k : ℕ) → Touches k a b → (j : ℕ) → j ≢ k → IsBetween a j → IsBetween b j
+pub between_still : (a b : SchedulerState) (k : ℕ) → Touches k a b → (j : ℕ) → j ≢ k → RestsOrWaits a j → RestsOrWaits b j
 between_still a b k touches j other =
     between_keeps a b touches.code touches.places touches.alike j (touches.seats (suc j) (λ e. other (omega (arith, e)))) (touches.children j other) (λ i mine. touches.parents i (apart i mine)) (λ i mine. touches.hands i (apart i mine))
   where
@@ -127,7 +127,7 @@ between_still a b k touches j other =
     apart i mine is = let same = parent_once (code_in a) (suc j) (suc k) i mine is in other (omega (arith, same))
 
 -- the branches of thread t were looked at, or told jobs
-pub between_moves : (a b : State) (t : ℕ) → ChangesBranches t a b → (j : ℕ) → suc j ≢ t → IsBetween a j → IsBetween b j
+pub between_moves : (a b : SchedulerState) (t : ℕ) → ChangesBranches t a b → (j : ℕ) → suc j ≢ t → RestsOrWaits a j → RestsOrWaits b j
 between_moves a b t moves j other =
     between_keeps a b moves.code moves.places moves.alike j (ap (λ l. slice_get l (suc j)) moves.seats) (moves.children j) (λ i mine. moves.parents i (apart i mine)) (λ i mine. moves.hands i (apart i mine))
   where

@@ -11,7 +11,7 @@ pub record Extends {A : Type 0} (before after : List A) : Type 0 where
   pub is : after ≡ before ++ more
 
 -- a list gained one
-pub record Gains {A : Type 0} (before after : List A) : Type 0 where
+pub record GainsOne {A : Type 0} (before after : List A) : Type 0 where
   pub one : A
   pub is : after ≡ before ++ one ∷ []
 
@@ -32,7 +32,7 @@ pub record Grown (before after : Mail) : Type 0 where
 
 -- thread k + 1 has answered a job, or a job was sent to a branch of it
 pub data HasWorked (s : PlainShape) (before after : Mail) (k : ℕ) : Type 0 where
-  replied : Gains (answered before k) (answered after k) → HasWorked s before after k
+  replied : GainsOne (answered before k) (answered after k) → HasWorked s before after k
   forked : (j : ℕ) → IsBranchOf s (suc k) j → Extends (sent before j) (sent after j) → length (sent before j) < length (sent after j) → HasWorked s before after k
 
 -- the same, at least once

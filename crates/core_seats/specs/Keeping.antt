@@ -23,18 +23,18 @@ use Rattle.core_seats.specs.Changes.{Extends, Grown}
 use Rattle.core_seats.specs.Done.{HasDone}
 
 -- `hands`: at k, the packet of mailbox k in its parent's hand
-pub record State : Type 0 where
+pub record SchedulerState : Type 0 where
   pub code : CodeParts
   pub places : List ℕ
   pub mail : Mail
   pub seats : List Seat
   pub hands : List (Option Packet)
 
-abbrev pub code_in : State → PlainCode
+abbrev pub code_in : SchedulerState → PlainCode
 code_in s = plain_code s.code
 
 -- the port is one for the code, each thread has a seat and a place, and each mailbox a hand for its packet
-pub record IsSeated (s : State) : Type 0 where
+pub record IsSeated (s : SchedulerState) : Type 0 where
   pub valid : IsValidCode (code_in s)
   pub work : s.mail.work.code.value ≡ s.code
   pub mailboxes : suc (length s.mail.ends) ≡ length (code_in s).threads
@@ -43,12 +43,12 @@ pub record IsSeated (s : State) : Type 0 where
   pub places : length s.places ≡ length (code_in s).threads
 
 -- the port also has both ends of each mailbox, and tells whose turn it is
-pub record IsFitted (s : State) : Type 0 where
+pub record IsFitted (s : SchedulerState) : Type 0 where
   pub seated : IsSeated s
   pub tells : s.mail.tells ≡ true
 
 -- the thread sits in its seat
-pub record Sits (s : State) (t : ℕ) (h : Thread) : Type 0 where
+pub record Sits (s : SchedulerState) (t : ℕ) (h : Thread) : Type 0 where
   pub seat : Seat
   pub at : slice_get s.seats t ≡ Some seat
   pub is : seat.thread ≡ Some h
@@ -61,7 +61,7 @@ pub data LastReply (c : PlainCode) (k : ℕ) (jobs : List PlainPacket) (h : Thre
   last : (reply : PlainPacket) → PacketAnswers (CodeAlone c) (length c.threads) (suc k) jobs reply → (reply.kind ≡ IsPaused → HasPaused h) → LastReply c k jobs h
 
 -- thread k + 1 rests, with no job in its hand, and has answered all jobs that it took
-pub record Idle (s : State) (k : ℕ) : Type 0 where
+pub record Idle (s : SchedulerState) (k : ℕ) : Type 0 where
   pub thread : Thread
   pub sits : Sits s (suc k) thread
   pub free : sits.seat.job ≡ None
@@ -74,39 +74,39 @@ pub record Idle (s : State) (k : ℕ) : Type 0 where
   pub even : length (answered s.mail k) ≡ length (taken s.mail k)
 
 -- the packet of mailbox k is its parent's: the blank one in its slot, or the last reply in hand
-pub data Ready (s : State) (k : ℕ) : Option Packet → Type 0 where
-  blank : ParentIs s.mail k Fresh → (q : PlainPacket) → slice_get s.mail.blanks k ≡ Some q → HasRoom (of_shape (code_in s).shape) (suc k) q → Ready s k None
-  reply : ParentIs s.mail k Held → (p : Packet) → HasRoom (of_shape (code_in s).shape) (suc k) (plain_packet p) → Ready s k (Some p)
+pub data IsPacketOfParent (s : SchedulerState) (k : ℕ) : Option Packet → Type 0 where
+  blank : ParentIs s.mail k Fresh → (q : PlainPacket) → slice_get s.mail.blanks k ≡ Some q → HasRoom (of_shape (code_in s).shape) (suc k) q → IsPacketOfParent s k None
+  reply : ParentIs s.mail k Held → (p : Packet) → HasRoom (of_shape (code_in s).shape) (suc k) (plain_packet p) → IsPacketOfParent s k (Some p)
 
-pub record HasPacket (s : State) (k : ℕ) : Type 0 where
+pub record HasPacket (s : SchedulerState) (k : ℕ) : Type 0 where
   pub hand : Option Packet
   pub at : slice_get s.hands k ≡ Some hand
-  pub ready : Ready s k hand
+  pub ready : IsPacketOfParent s k hand
 
 -- nothing is under way at mailbox k
-pub record Quiet (s : State) (k : ℕ) : Type 0 where
+pub record Quiet (s : SchedulerState) (k : ℕ) : Type 0 where
   pub idle : Idle s k
   pub all : taken s.mail k ≡ sent s.mail k
   pub packet : HasPacket s k
 
 -- nor at any mailbox of a thread above t
-abbrev pub QuietAbove : State → ℕ → Type 0
+abbrev pub QuietAbove : SchedulerState → ℕ → Type 0
 QuietAbove s t = (k : ℕ) → t ≤ k → k < length s.mail.ends → Quiet s k
 
 -- the packet of mailbox k was sent, and not got back
-pub record LacksPacket (s : State) (k : ℕ) : Type 0 where
+pub record LacksPacket (s : SchedulerState) (k : ℕ) : Type 0 where
   pub out : ParentIs s.mail k Out
   pub empty : slice_get s.hands k ≡ Some None
 
 -- the jobs of thread k + 1 that it did not take yet
-pub record IsCalled (s : State) (k : ℕ) : Type 0 where
+pub record IsCalled (s : SchedulerState) (k : ℕ) : Type 0 where
   pub idle : Idle s k
   pub lacks : LacksPacket s k
   pub job : PlainPacket
   pub one : sent s.mail k ≡ taken s.mail k ++ job ∷ []
 
 -- it has answered all, and its parent did not look yet
-pub record IsBack (s : State) (k : ℕ) : Type 0 where
+pub record IsBack (s : SchedulerState) (k : ℕ) : Type 0 where
   pub idle : Idle s k
   pub lacks : LacksPacket s k
   pub all : taken s.mail k ≡ sent s.mail k
@@ -114,7 +114,7 @@ pub record IsBack (s : State) (k : ℕ) : Type 0 where
 -- ---- what calls leave alone
 
 -- what a port keeps
-pub record Alike (a b : Mail) : Type 0 where
+pub record KeepsPort (a b : Mail) : Type 0 where
   pub work : b.work ≡ a.work
   pub blanks : b.blanks ≡ a.blanks
   pub tells : b.tells ≡ a.tells
@@ -123,10 +123,10 @@ pub record Alike (a b : Mail) : Type 0 where
   pub stops : Extends a.stops b.stops
 
 -- the threads below t, with their branches' packets and mailboxes, and the children's ends of the mailboxes below u
-pub record Leaves (t u : ℕ) (a b : State) : Type 0 where
+pub record KeepsBelow (t u : ℕ) (a b : SchedulerState) : Type 0 where
   pub code : b.code ≡ a.code
   pub places : b.places ≡ a.places
-  pub alike : Alike a.mail b.mail
+  pub alike : KeepsPort a.mail b.mail
   pub grown : Grown a.mail b.mail
   pub seats : (j : ℕ) → j < t → slice_get b.seats j ≡ slice_get a.seats j
   pub seat_count : length b.seats ≡ length a.seats
@@ -150,7 +150,7 @@ pub record IsJobFor (c : PlainCode) (mail : Mail) (t : ℕ) (w : Written) : Type
   pub above : t ≤ mailbox
   pub may : MayAsk c mail mailbox w.job
 
-pub record AtFork (s : State) (h : Thread) : Type 0 where
+pub record AtFork (s : SchedulerState) (h : Thread) : Type 0 where
   pub loaded : Loaded (code_in s) h
   pub settled : HasSettled h 0
   pub few : length h.branches.numbers ≤ MAX_THREADS
@@ -159,7 +159,7 @@ pub record AtFork (s : State) (h : Thread) : Type 0 where
   pub each : (i : ℕ) (w : Written) → slice_get (jobs_at (code_in s) h) i ≡ Some w → IsJobFor (code_in s) s.mail h.number w
 
 -- the k-th of these jobs can be sent through mailbox m
-pub record CanSend (s : State) (h : Thread) (k m : ℕ) : Type 0 where
+pub record CanSend (s : SchedulerState) (h : Thread) (k m : ℕ) : Type 0 where
   pub loaded : Loaded (code_in s) h
   pub settled : HasSettled h 0
   pub number : slice_get h.branches.numbers k ≡ Some (suc m)
@@ -169,7 +169,7 @@ pub record CanSend (s : State) (h : Thread) (k m : ℕ) : Type 0 where
   pub inside : m < length s.mail.ends
 
 -- branch number i has replied by this, and the packet is in hand
-pub record HasHeard (s : State) (branch : ℕ) (r : Reply) : Type 0 where
+pub record HasHeard (s : SchedulerState) (branch : ℕ) (r : Reply) : Type 0 where
   pub mailbox : ℕ
   pub is : branch ≡ suc mailbox
   pub packet : Packet
@@ -178,14 +178,14 @@ pub record HasHeard (s : State) (branch : ℕ) (r : Reply) : Type 0 where
   pub reply : IsReply (plain_packet packet) r
 
 -- each of these branches has
-pub record HaveHeard (s : State) (branches : List ℕ) (rs : List Reply) : Type 0 where
+pub record HaveHeard (s : SchedulerState) (branches : List ℕ) (rs : List Reply) : Type 0 where
   pub count : length rs ≡ length branches
   pub each : (i b : ℕ) (r : Reply) → slice_get branches i ≡ Some b → slice_get rs i ≡ Some r → HasHeard s b r
 
 -- where the thread stood for exchanges with no replies in the last, it stands for them with those that were heard
-abbrev pub SettlesReplies : State → Thread → Thread → Type 0
+abbrev pub SettlesReplies : SchedulerState → Thread → Thread → Type 0
 SettlesReplies s h h1 = (rs : List Reply) (xs : List Exchange) → HaveHeard s h.branches.numbers rs → StandsFor (code_in s) h (with_replies xs []) → StandsFor (code_in s) h1 (with_replies xs rs)
 
 -- where it stood for them with these, it still does
-abbrev pub JoinsReplies : State → Thread → Thread → Type 0
+abbrev pub JoinsReplies : SchedulerState → Thread → Thread → Type 0
 JoinsReplies s h h1 = (rs : List Reply) (xs : List Exchange) → HaveHeard s h.branches.numbers rs → StandsFor (code_in s) h (with_replies xs rs) → StandsFor (code_in s) h1 (with_replies xs rs)

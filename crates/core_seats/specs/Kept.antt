@@ -9,6 +9,6 @@ pub record Standing : Type 0 where
   pub cores : List ℕ
 
 -- `hosts`: of those that are served, in order, as far as they are known. `borrow`: the name of the borrow that they are behind, if there is one
-pub record Kept : Type 0 where
+pub record ServedHosts : Type 0 where
   pub borrow : ℕ
   pub hosts : List Standing

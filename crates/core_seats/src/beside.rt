@@ -7,7 +7,7 @@ ghost use Rattle.thread_code.specs.Valid.{of_shape};
 ghost use Rattle.combine_tree.specs.Plain.{plain_packet};
 ghost use Rattle.core_machine.specs.declared.thread.Thread.{Thread as PlainThread};
 ghost use Rattle.core_machine.specs.Threads.{Loaded, CanBegin, CanRun, HasReply};
-ghost use Rattle.core_machine.specs.Replies.{Replies_by};
+ghost use Rattle.core_machine.specs.Replies.{RepliesByKind};
 ghost use Rattle.core_seats.specs.Changes.{Grown};
 ghost use Rattle.core_seats.specs.Ending.{HasRepliedTo};
 ghost use Rattle.core_seats.specs.Keeping.{code_in, IsSeated, Sits, HasPacket, AtFork};
@@ -16,7 +16,7 @@ ghost use Rattle.tick_jobs.specs.Branches.{IsBranchOf};
 ghost use Rattle.core_seats.specs.Resting.{RootRests};
 ghost use Rattle.core_seats.specs.Rounds.{AllIdle, CanServe, IsIdleAt, IsSameRound, SomeWorked};
 ghost use Rattle.core_seats.specs.Serving.{AllMissed, KeepsServing};
-ghost use Rattle.core_seats.specs.Waiting.{HasChild, HasTold, IsForked, IsBetween, IsVacant, IsGathering, HasReplies};
+ghost use Rattle.core_seats.specs.Waiting.{HasChild, HasTold, IsForked, RestsOrWaits, IsVacant, IsGathering, HasReplies};
 
 use crate::round::{Round, index_at};
 use crate::scheduler::Scheduler;
@@ -30,10 +30,10 @@ use std::sync::Wait;
 /// What is served where nobody else runs it.
 pub trait Serve {
     ghost use Rattle.std.specs.Prelude.{◌≡◌};
-    ghost use Rattle.core_seats.specs.Kept.{Kept};
+    ghost use Rattle.core_seats.specs.Kept.{ServedHosts};
 
     /// What no serving changes, as far as it is known.
-    ghost kept: { Self → Kept };
+    ghost kept: { Self → ServedHosts };
 
     /// Does something, if there is anything to do, and hints to those to whom it sent. Returns whether there was something to do.
     fn serve<R: Wait>(&mut self, rt: &R) -> bool
@@ -263,14 +263,14 @@ impl<'c, P: Port<ForecWork> + Drop> Scheduler<'c, P> {
         ensures round { IsSameRound round.old round.new }
         ensures here { (k : ℕ) → HasChild self.old.mail k → HasChild self.new.mail k }
         ensures was_here { (k : ℕ) → HasChild self.new.mail k → HasChild self.old.mail k }
-        ensures between { (k : ℕ) → IsBetween self.old k → IsBetween self.new k }
+        ensures between { (k : ℕ) → RestsOrWaits self.old k → RestsOrWaits self.new k }
         ensures vacant { (k : ℕ) → IsVacant self.old (suc k) → IsVacant self.new (suc k) }
         ensures root { RootRests self.new }
         ensures packets { (k : ℕ) → k < length self.new.mail.ends → IsBranchOf (code_in self.old).shape 0 k
             → HasPacket self.new k }
         ensures grown { Grown self.old.mail self.new.mail }
         ensures room { HasRoom (of_shape (code_in self.old).shape) 0 (plain_packet packet.new) }
-        ensures kind { (t : PlainThread) → Sits self.new 0 t → Replies_by t packet.new.kind }
+        ensures kind { (t : PlainThread) → Sits self.new 0 t → RepliesByKind t packet.new.kind }
         ensures replied { HasRepliedTo self.old self.new (plain_packet packet.old) (plain_packet packet.new) }
         ensures others { O.kept others.new ≡ O.kept others.old }
     {

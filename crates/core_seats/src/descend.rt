@@ -8,7 +8,7 @@ ghost use Rattle.core_seats.specs.Descending.{Descends, IsRunning, KeepsRound};
 ghost use Rattle.core_seats.specs.Keeping.{code_in, IsSeated, HasPacket, AtFork, CanSend, Quiet};
 ghost use Rattle.tick_jobs.specs.Branches.{IsBranchOf};
 ghost use Rattle.core_seats.specs.Serving.{Touches, OnlyLooks, HasMissed};
-ghost use Rattle.core_seats.specs.Waiting.{HasTold, IsForked, IsWorking, IsWaiting, IsBetween, CanDescend};
+ghost use Rattle.core_seats.specs.Waiting.{HasTold, IsForked, IsWorking, IsWaiting, RestsOrWaits, CanDescend};
 
 use crate::active::Active;
 use crate::round::Round;
@@ -195,7 +195,7 @@ impl<'c, P: Port<ForecWork> + Drop> Scheduler<'c, P> {
         requires running { IsRunning self.old active }
         requires above { CanDescend self.old (suc active.mailbox) }
         ensures descends { Descends active.mailbox (suc active.mailbox) self.old self.new }
-        ensures between { IsBetween self.new active.mailbox }
+        ensures between { RestsOrWaits self.new active.mailbox }
         ensures worked { HasProgressed (code_in self.old).shape self.old.mail self.new.mail active.mailbox }
         ensures round { KeepsRound round.old round.new }
     {
@@ -219,7 +219,7 @@ impl<'c, P: Port<ForecWork> + Drop> Scheduler<'c, P> {
     ) -> bool
         requires inside { mailbox < length self.old.mail.ends }
         requires seated { IsSeated self.old }
-        requires between { IsBetween self.old mailbox }
+        requires between { RestsOrWaits self.old mailbox }
         requires above { CanDescend self.old (suc mailbox) }
         ensures descends { Descends mailbox mailbox self.old self.new }
         ensures worked { result ≡ true → HasProgressed (code_in self.old).shape self.old.mail self.new.mail mailbox }

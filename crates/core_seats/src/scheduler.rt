@@ -10,10 +10,10 @@ ghost use Rattle.copy_slots.specs.Ports.{sent, got, turn, ParentIs};
 ghost use Rattle.core_machine.specs.Threads.{Loaded, CanBegin, CanRun, HasReply, HasSettled, HasJoined};
 ghost use Rattle.core_machine.specs.Forks.{jobs_at};
 ghost use Rattle.core_machine.specs.declared.thread.Thread.{Thread as PlainThread};
-ghost use Rattle.core_machine.specs.Replies.{Replies_by};
+ghost use Rattle.core_machine.specs.Replies.{RepliesByKind};
 ghost use Rattle.core_seats.specs.Changes.{Grown};
 ghost use Rattle.core_seats.specs.ChildrenRun.{PostsMore};
-ghost use Rattle.core_seats.specs.Keeping.{State, code_in, IsSeated, IsFitted, Sits, QuietAbove, HasPacket, LacksPacket, CanSend, IsCalled, IsBack, Leaves, AtFork, HaveHeard, SettlesReplies, JoinsReplies};
+ghost use Rattle.core_seats.specs.Keeping.{SchedulerState, code_in, IsSeated, IsFitted, Sits, QuietAbove, HasPacket, LacksPacket, CanSend, IsCalled, IsBack, KeepsBelow, AtFork, HaveHeard, SettlesReplies, JoinsReplies};
 ghost use Rattle.core_seats.specs.Moving.{ChangesPacket, HasSent, HasGot, HasLooked};
 
 use crate::seat::Seat;
@@ -39,9 +39,9 @@ pub struct Scheduler<'c, P: Port<ForecWork> + Drop> {
 }
 
 impl<'c, P: Port<ForecWork> + Drop> Model for Scheduler<'c, P> {
-    ghost use Rattle.core_seats.specs.Keeping.{State};
+    ghost use Rattle.core_seats.specs.Keeping.{SchedulerState};
 
-    ghost Value = { State };
+    ghost Value = { SchedulerState };
 
     ghost view = { λ d. record { code = d.code.now; places = d.places.items; mail = P.state d.port; seats = d.seats.items; hands = d.hands.items } };
 }
@@ -114,7 +114,7 @@ impl<'c, P: Port<ForecWork> + Drop> Scheduler<'c, P> {
         requires above { QuietAbove self.old (suc mailbox) }
         ensures back { IsBack self.new mailbox }
         ensures above { QuietAbove self.new (suc mailbox) }
-        ensures leaves { Leaves (suc mailbox) mailbox self.old self.new }
+        ensures leaves { KeepsBelow (suc mailbox) mailbox self.old self.new }
     {
         let number = mailbox + 1;
         let core = self.places[number as usize];
@@ -144,7 +144,7 @@ impl<'c, P: Port<ForecWork> + Drop> Scheduler<'c, P> {
         requires fork { AtFork self.old thread.now }
         requires above { QuietAbove self.old thread.now.number }
         ensures above { QuietAbove self.new thread.now.number }
-        ensures leaves { Leaves thread.now.number thread.now.number self.old self.new }
+        ensures leaves { KeepsBelow thread.now.number thread.now.number self.old self.new }
         ensures heard { (rs : List Reply) × HaveHeard self.new thread.now.branches.numbers rs
             × PostsMore self.old self.new thread.now rs }
     {
@@ -217,7 +217,7 @@ impl<'c, P: Port<ForecWork> + Drop> Scheduler<'c, P> {
         ensures number { thread.new.number ≡ thread.old.number }
         ensures reply { HasReply thread.new }
         ensures above { QuietAbove self.new thread.old.number }
-        ensures leaves { Leaves thread.old.number thread.old.number self.old self.new }
+        ensures leaves { KeepsBelow thread.old.number thread.old.number self.old self.new }
         ensures done { StaysInJob self.old thread.old self.new thread.new }
     {
         // For the proof alone, which counts the forks down.
@@ -247,7 +247,7 @@ impl<'c, P: Port<ForecWork> + Drop> Scheduler<'c, P> {
         ensures root { RootRests self.new }
         ensures grown { Grown self.old.mail self.new.mail }
         ensures room { HasRoom (of_shape (code_in self.old).shape) 0 (plain_packet packet.new) }
-        ensures kind { (t : PlainThread) → Sits self.new 0 t → Replies_by t packet.new.kind }
+        ensures kind { (t : PlainThread) → Sits self.new 0 t → RepliesByKind t packet.new.kind }
         ensures replied { HasRepliedTo self.old self.new (plain_packet packet.old) (plain_packet packet.new) }
     {
         let Some(mut seated) = self.seats[0].thread.take() else {

@@ -6,11 +6,11 @@ ghost use Rattle.combine_tree.specs.declared.packet.Packet.{Packet as PlainPacke
 ghost use Rattle.combine_tree.specs.Plain.{plain_packet};
 ghost use Rattle.copy_slots.specs.Ports.{taken, answered, turn, after_take, after_answer, after_stop, after_check, in_plain, ChildIs};
 ghost use Rattle.core_seats.specs.Asking.{Asks, Replies};
-ghost use Rattle.core_seats.specs.Changes.{HasWorked, Awaits, Gains};
+ghost use Rattle.core_seats.specs.Changes.{HasWorked, Awaits, GainsOne};
 ghost use Rattle.core_seats.specs.Descending.{IsRunning, IsHeld, HasFinished};
 ghost use Rattle.core_seats.specs.Keeping.{code_in, IsSeated, LacksPacket, AtFork, Quiet};
 ghost use Rattle.core_seats.specs.Moving.{ChangesPacket, HasGot, HasLooked};
-ghost use Rattle.core_seats.specs.Waiting.{HasTold, TellsAll, IsGathering, HasReplies, IsAtRest, WaitsAt, IsBetween};
+ghost use Rattle.core_seats.specs.Waiting.{HasTold, TellsAll, IsGathering, HasReplies, IsAtRest, WaitsAt, RestsOrWaits};
 ghost use Rattle.core_seats.specs.Rounds.{AllIdle, WorkedAt};
 ghost use Rattle.core_seats.specs.Serving.{ChangesBranches, Touches, OnlyLooks, HasMissed, AllMissed, KeepsServing};
 
@@ -164,7 +164,7 @@ impl<'c, P: Port<ForecWork> + Drop> Scheduler<'c, P> {
         requires seated { IsSeated self.old }
         requires held { IsHeld self.old active }
         ensures touches { Touches active.mailbox self.old self.new }
-        ensures between { IsBetween self.new active.mailbox }
+        ensures between { RestsOrWaits self.new active.mailbox }
         ensures mail { self.new.mail ≡ self.old.mail }
     {
         let Active {
@@ -186,8 +186,8 @@ impl<'c, P: Port<ForecWork> + Drop> Scheduler<'c, P> {
         requires seated { IsSeated self.old }
         requires finished { HasFinished self.old active }
         ensures touches { Touches active.mailbox self.old self.new }
-        ensures between { IsBetween self.new active.mailbox }
-        ensures replied { Gains (answered self.old.mail active.mailbox) (answered self.new.mail active.mailbox) }
+        ensures between { RestsOrWaits self.new active.mailbox }
+        ensures replied { GainsOne (answered self.old.mail active.mailbox) (answered self.new.mail active.mailbox) }
     {
         let Active {
             mailbox,
@@ -209,7 +209,7 @@ impl<'c, P: Port<ForecWork> + Drop> Scheduler<'c, P> {
         ensures touches { Touches mailbox self.old self.new }
         ensures running { IfSome result (λ r. (r.mailbox ≡ mailbox) × IsRunning self.new r) }
         ensures answered { answered self.new.mail mailbox ≡ answered self.old.mail mailbox }
-        ensures between { result ≡ None → IsBetween self.new mailbox }
+        ensures between { result ≡ None → RestsOrWaits self.new mailbox }
         ensures nothing { result ≡ None → HasMissed mailbox self.old self.new }
         ensures looks { result ≡ None → OnlyLooks mailbox self.old self.new }
         ensures turn { self.old.mail.tells ≡ true → IfSome result (λ r. turn self.old.mail mailbox ≢ 0) }
@@ -238,7 +238,7 @@ impl<'c, P: Port<ForecWork> + Drop> Scheduler<'c, P> {
         ensures touches { Touches mailbox self.old self.new }
         ensures running { IfSome result (λ r. (r.mailbox ≡ mailbox) × IsRunning self.new r) }
         ensures answered { answered self.new.mail mailbox ≡ answered self.old.mail mailbox }
-        ensures between { result ≡ None → IsBetween self.new mailbox }
+        ensures between { result ≡ None → RestsOrWaits self.new mailbox }
         ensures nothing { result ≡ None → HasMissed mailbox self.old self.new }
     {
         let number = mailbox + 1;
@@ -269,11 +269,11 @@ impl<'c, P: Port<ForecWork> + Drop> Scheduler<'c, P> {
     pub(crate) fn take_up<G: Gate>(&mut self, gate: &G, mailbox: u32) -> Option<Active>
         requires inside { mailbox < length self.old.mail.ends }
         requires seated { IsSeated self.old }
-        requires between { IsBetween self.old mailbox }
+        requires between { RestsOrWaits self.old mailbox }
         ensures touches { Touches mailbox self.old self.new }
         ensures running { IfSome result (λ r. (r.mailbox ≡ mailbox) × IsRunning self.new r) }
         ensures answered { answered self.new.mail mailbox ≡ answered self.old.mail mailbox }
-        ensures between { result ≡ None → IsBetween self.new mailbox }
+        ensures between { result ≡ None → RestsOrWaits self.new mailbox }
         ensures nothing { result ≡ None → HasMissed mailbox self.old self.new }
         ensures quiet { self.old.mail.tells ≡ true → Quiet self.old mailbox → OnlyLooks mailbox self.old self.new }
         ensures missed { self.old.mail.tells ≡ true → Quiet self.old mailbox → result ≡ None }
@@ -291,7 +291,7 @@ impl<'c, P: Port<ForecWork> + Drop> Scheduler<'c, P> {
         requires seated { IsSeated self.old }
         requires running { IsRunning self.old active }
         ensures touches { Touches active.mailbox self.old self.new }
-        ensures between { IsBetween self.new active.mailbox }
+        ensures between { RestsOrWaits self.new active.mailbox }
         ensures worked { HasWorked (code_in self.old).shape self.old.mail self.new.mail active.mailbox }
     {
         let thread: &mut Thread = &mut active.thread;
@@ -308,9 +308,9 @@ impl<'c, P: Port<ForecWork> + Drop> Scheduler<'c, P> {
     pub(crate) fn serve<G: Gate>(&mut self, gate: &G, mailbox: u32) -> bool
         requires inside { mailbox < length self.old.mail.ends }
         requires seated { IsSeated self.old }
-        requires between { IsBetween self.old mailbox }
+        requires between { RestsOrWaits self.old mailbox }
         ensures touches { Touches mailbox self.old self.new }
-        ensures between { IsBetween self.new mailbox }
+        ensures between { RestsOrWaits self.new mailbox }
         ensures worked { result ≡ true → HasWorked (code_in self.old).shape self.old.mail self.new.mail mailbox }
         ensures nothing { result ≡ false → HasMissed mailbox self.old self.new }
         ensures quiet { self.old.mail.tells ≡ true → Quiet self.old mailbox → OnlyLooks mailbox self.old self.new }
@@ -328,7 +328,7 @@ impl<'c, P: Port<ForecWork> + Drop> Scheduler<'c, P> {
     fn serve_first<G: Gate>(&mut self, gate: &G, mailboxes: &[u32]) -> Option<usize>
         requires seated { IsSeated self.old }
         requires each { (i k : ℕ) → slice_get mailboxes.now i ≡ Some k → (k < length self.old.mail.ends)
-            × IsBetween self.old k }
+            × RestsOrWaits self.old k }
         ensures keeps { KeepsServing self.old self.new }
         ensures place { IfSome result (λ i. i < length mailboxes.now) }
         ensures worked { IfSome result (λ i. WorkedAt mailboxes.now i self.old self.new) }
@@ -354,7 +354,7 @@ impl<'c, P: Port<ForecWork> + Drop> Scheduler<'c, P> {
         requires seated { IsSeated self.old }
         requires first { first ≤ length mailboxes.now }
         requires each { (i k : ℕ) → slice_get mailboxes.now i ≡ Some k → (k < length self.old.mail.ends)
-            × IsBetween self.old k }
+            × RestsOrWaits self.old k }
         ensures keeps { KeepsServing self.old self.new }
         ensures place { IfSome result (λ i. i < length mailboxes.now) }
         ensures worked { IfSome result (λ i. WorkedAt mailboxes.now i self.old self.new) }

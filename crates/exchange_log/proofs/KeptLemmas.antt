@@ -14,7 +14,7 @@ use Rattle.copy_slots.specs.declared.view.PacketAt.{PacketAt}
 use Rattle.copy_slots.specs.declared.view.Sender.{Sender}
 use Rattle.copy_slots.specs.declared.view.Taker.{Taker}
 use Rattle.copy_slots.specs.Mail.{sender_looked, sender_got, sender_sent}
-use Rattle.copy_slots.specs.Ports.{Ends, parent_at, on_sender, on_parent, on_child, IsParent, sender_seen, in_plain}
+use Rattle.copy_slots.specs.Ports.{MailboxEnds, parent_at, on_sender, on_parent, on_child, IsParent, sender_seen, in_plain}
 use Rattle.copy_slots.proofs.PortLemmas.{parent_here, parent_else, parent_on_child}
 use Rattle.tick_jobs.proofs.Lists.{get_set, get_set_else}
 use Rattle.core_seats.specs.Asking.{Asks}
@@ -22,7 +22,7 @@ use Rattle.exchange_log.specs.declared.book.Book.{Book}
 use Rattle.exchange_log.specs.declared.register.Register.{Register}
 use Rattle.exchange_log.specs.Registers.{packets_in, packets_of, count_in, AreInside, AreNumbered, IsEmpty, KeepsPacket}
 use Rattle.exchange_log.specs.Notes.{most_counted, NotesJob, NotesReply}
-use Rattle.exchange_log.specs.Kept.{job_words, reply_words, words_of_jobs, words_of_replies, words_of_end, mail_words, job_note, reply_note, job_notes, reply_notes, HasAll, HaveRoom, IsKept}
+use Rattle.exchange_log.specs.Kept.{job_words, reply_words, words_of_jobs, words_of_replies, words_of_end, mail_words, job_note, reply_note, job_notes, reply_notes, HasAll, HaveRoom, KeepsExchanges}
 use Rattle.exchange_log.proofs.RegisterLemmas.{length_app, counted, count_most, packets_grow, inside_grows, numbered_grows, entry_count, args_count, copies_count}
 
 job_notes_snoc : (ps : List PlainPacket) (p : PlainPacket) → job_notes (ps ++ p ∷ []) ≡ job_notes ps ++ job_note p ∷ []
@@ -55,7 +55,7 @@ replies_snoc : (ps : List PlainPacket) (p : PlainPacket) → words_of_replies (p
 replies_snoc [] p = omega arith
 replies_snoc (x ∷ ps) p = let ih = replies_snoc ps p in omega (arith, ih)
 
-words_on : (ends : List (Ends PlainPacket)) (k n : ℕ) (f : Sender PlainPacket → Sender PlainPacket) (x : Sender PlainPacket) → parent_at ends k ≡ Some x →
+words_on : (ends : List (MailboxEnds PlainPacket)) (k n : ℕ) (f : Sender PlainPacket → Sender PlainPacket) (x : Sender PlainPacket) → parent_at ends k ≡ Some x →
     words_of_end (Some (f x)) ≡ words_of_end (Some x) + n → mail_words (on_parent ends k f) ≡ mail_words ends + n
 words_on [] k n f x e h = cc
 words_on (e0 ∷ es) zero n f x e h =
@@ -63,7 +63,7 @@ words_on (e0 ∷ es) zero n f x e h =
     let b : words_of_end e0.parent ≡ words_of_end (Some x) = ap words_of_end e in omega (arith, a, b, h)
 words_on (e0 ∷ es) (suc k) n f x e h = let ih = words_on es k n f x e h in omega (arith, ih)
 
-words_same : (ends : List (Ends PlainPacket)) (k : ℕ) (f : Sender PlainPacket → Sender PlainPacket) → ((x : Sender PlainPacket) → words_of_end (Some (f x)) ≡ words_of_end (Some x)) → mail_words (on_parent ends k f) ≡ mail_words ends
+words_same : (ends : List (MailboxEnds PlainPacket)) (k : ℕ) (f : Sender PlainPacket → Sender PlainPacket) → ((x : Sender PlainPacket) → words_of_end (Some (f x)) ≡ words_of_end (Some x)) → mail_words (on_parent ends k f) ≡ mail_words ends
 words_same [] k f h = refl
 words_same (e ∷ es) zero f h = ap (λ n. n + mail_words es) (by_end e.parent)
   where
@@ -72,7 +72,7 @@ words_same (e ∷ es) zero f h = ap (λ n. n + mail_words es) (by_end e.parent)
     by_end (Some x) = h x
 words_same (e ∷ es) (suc k) f h = ap (λ n. words_of_end e.parent + n) (words_same es k f h)
 
-words_child : (ends : List (Ends PlainPacket)) (k : ℕ) (f : Taker PlainPacket → Taker PlainPacket) → mail_words (on_child ends k f) ≡ mail_words ends
+words_child : (ends : List (MailboxEnds PlainPacket)) (k : ℕ) (f : Taker PlainPacket → Taker PlainPacket) → mail_words (on_child ends k f) ≡ mail_words ends
 words_child [] k f = refl
 words_child (e ∷ es) zero f = refl
 words_child (e ∷ es) (suc k) f = ap (λ n. words_of_end e.parent + n) (words_child es k f)
@@ -95,11 +95,11 @@ has_parent p (Some x) h = (x, refl)
 pub number_same : (a b : ℕ) → Some a ≡ Some b → a ≡ b
 number_same a b e = cc
 
-data Where (ends : List (Ends PlainPacket)) (k j : ℕ) (z y : Sender PlainPacket) : Type 0 where
+data Where (ends : List (MailboxEnds PlainPacket)) (k j : ℕ) (z y : Sender PlainPacket) : Type 0 where
   here : (k == j) ≡ true → j ≡ k → y ≡ z → Where ends k j z y
   there : (k == j) ≡ false → j ≢ k → parent_at ends j ≡ Some y → Where ends k j z y
 
-where_is : (ends : List (Ends PlainPacket)) (k j : ℕ) (f : Sender PlainPacket → Sender PlainPacket) (x y : Sender PlainPacket) → parent_at ends k ≡ Some x → parent_at (on_parent ends k f) j ≡ Some y → Where ends k j (f x) y
+where_is : (ends : List (MailboxEnds PlainPacket)) (k j : ℕ) (f : Sender PlainPacket → Sender PlainPacket) (x y : Sender PlainPacket) → parent_at ends k ≡ Some x → parent_at (on_parent ends k f) j ≡ Some y → Where ends k j (f x) y
 where_is ends k j f x y e h = by_test (k == j) refl
   where
     by_test : (t : Bool) → (k == j) ≡ t → Where ends k j (f x) y
@@ -112,8 +112,8 @@ where_is ends k j f x y e h = by_test (k == j) refl
 
 -- ---- what is the same
 
-kept_same : (c : PlainCode) (ends ends' : List (Ends PlainPacket)) (b : Book) → mail_words ends' ≡ mail_words ends →
-    ((j : ℕ) (y : Sender PlainPacket) → parent_at ends' j ≡ Some y → (x : Sender PlainPacket) × (parent_at ends j ≡ Some x) × (y.sent ≡ x.sent) × (y.got ≡ x.got)) → IsKept c ends b → IsKept c ends' b
+kept_same : (c : PlainCode) (ends ends' : List (MailboxEnds PlainPacket)) (b : Book) → mail_words ends' ≡ mail_words ends →
+    ((j : ℕ) (y : Sender PlainPacket) → parent_at ends' j ≡ Some y → (x : Sender PlainPacket) × (parent_at ends j ≡ Some x) × (y.sent ≡ x.sent) × (y.got ≡ x.got)) → KeepsExchanges c ends b → KeepsExchanges c ends' b
 kept_same c ends ends' b words same h =
     record {
       needed = h.needed ∙ ap (λ n. min n most_counted) (sym words);
@@ -134,8 +134,8 @@ kept_same c ends ends' b words same h =
     }
 
 -- an end that looks, or opens
-pub kept_looks : (c : PlainCode) (ends : List (Ends PlainPacket)) (k : ℕ) (b : Book) (f : Sender PlainPacket → Sender PlainPacket) → ((x : Sender PlainPacket) → (f x).sent ≡ x.sent) → ((x : Sender PlainPacket) → (f x).got ≡ x.got) →
-    IsKept c ends b → IsKept c (on_parent ends k f) b
+pub kept_looks : (c : PlainCode) (ends : List (MailboxEnds PlainPacket)) (k : ℕ) (b : Book) (f : Sender PlainPacket → Sender PlainPacket) → ((x : Sender PlainPacket) → (f x).sent ≡ x.sent) → ((x : Sender PlainPacket) → (f x).got ≡ x.got) →
+    KeepsExchanges c ends b → KeepsExchanges c (on_parent ends k f) b
 kept_looks c ends k b f fs fg h =
     kept_same c ends (on_parent ends k f) b
     (words_same ends k f (λ x. ap (λ l. words_of_jobs l + words_of_replies (f x).got) (fs x) ∙ ap (λ l. words_of_jobs x.sent + words_of_replies l) (fg x))) same h
@@ -153,7 +153,7 @@ kept_looks c ends k b f fs fg h =
             let r = from (parent_at ends k) y (sym (parent_here ends k f) ∙ ap (parent_at (on_parent ends k f)) e ∙ at) in (r.0, ap (parent_at ends) (sym e) ∙ r.1, r.2, r.3)
         by_test false t = let other : j ≢ k = λ s. number_not k j t (sym s) in (y, sym (parent_else ends k j f other) ∙ at, refl, refl)
 
-pub kept_child : (c : PlainCode) (ends : List (Ends PlainPacket)) (k : ℕ) (b : Book) (f : Taker PlainPacket → Taker PlainPacket) → IsKept c ends b → IsKept c (on_child ends k f) b
+pub kept_child : (c : PlainCode) (ends : List (MailboxEnds PlainPacket)) (k : ℕ) (b : Book) (f : Taker PlainPacket → Taker PlainPacket) → KeepsExchanges c ends b → KeepsExchanges c (on_child ends k f) b
 kept_child c ends k b f h = kept_same c ends (on_child ends k f) b (words_child ends k f) (λ j y at. (y, sym (parent_on_child ends k j f) ∙ at, refl, refl)) h
 
 -- ---- one list of an end, as it grows
@@ -164,7 +164,7 @@ more_words a n w e = omega (arith, e)
 exact : (a n b : ℕ) → b ≡ min (a + n) most_counted → b < most_counted → b ≡ a + n
 exact a n b e h = omega (arith, e, h)
 
-module _ (ends : List (Ends PlainPacket)) (get : Sender PlainPacket → List PlainPacket) where
+module _ (ends : List (MailboxEnds PlainPacket)) (get : Sender PlainPacket → List PlainPacket) where
   abbrev CountsOf : List ℕ → Type 0
   CountsOf cs = (j : ℕ) (y : Sender PlainPacket) → parent_at ends j ≡ Some y → slice_get cs j ≡ Some (min (length (get y)) most_counted)
 
@@ -174,7 +174,7 @@ module _ (ends : List (Ends PlainPacket)) (get : Sender PlainPacket → List Pla
   abbrev FitsOf : PlainCode → Type 0
   FitsOf c = (j : ℕ) (y : Sender PlainPacket) → parent_at ends j ≡ Some y → HaveRoom c j (get y)
 
-module _ (ends : List (Ends PlainPacket)) (get : Sender PlainPacket → List PlainPacket) (k : ℕ) (f : Sender PlainPacket → Sender PlainPacket) (x : Sender PlainPacket) (at : parent_at ends k ≡ Some x) where
+module _ (ends : List (MailboxEnds PlainPacket)) (get : Sender PlainPacket → List PlainPacket) (k : ℕ) (f : Sender PlainPacket → Sender PlainPacket) (x : Sender PlainPacket) (at : parent_at ends k ≡ Some x) where
   -- one more
   module _ (q : PlainPacket) (is : get (f x) ≡ get x ++ q ∷ []) where
     counts_grow : (cs cs' : List ℕ) → cs' ≡ slice_set cs k (min (get_or cs k 0 + 1) most_counted) → CountsOf ends get cs → CountsOf (on_parent ends k f) get cs'
@@ -240,8 +240,8 @@ kept_count r k n ps at is long few =
 
 -- ---- a job
 
-pub job_noted : (c : PlainCode) (ends : List (Ends PlainPacket)) (a b : Book) (k : ℕ) (p : Packet) (x : Sender PlainPacket) → IsKept c ends a → parent_at ends k ≡ Some x → a.words < most_counted →
-    HasRoom (of_shape c.shape) (suc k) (plain_packet p) → NotesJob a b k p → IsKept c (on_parent ends k (sender_sent (plain_packet p))) b
+pub job_noted : (c : PlainCode) (ends : List (MailboxEnds PlainPacket)) (a b : Book) (k : ℕ) (p : Packet) (x : Sender PlainPacket) → KeepsExchanges c ends a → parent_at ends k ≡ Some x → a.words < most_counted →
+    HasRoom (of_shape c.shape) (suc k) (plain_packet p) → NotesJob a b k p → KeepsExchanges c (on_parent ends k (sender_sent (plain_packet p))) b
 job_noted c ends a b k p x h at little room n =
     let f = sender_sent (plain_packet p) in
     let m = 3 + length p.args.items + length p.copies.items in
@@ -284,8 +284,8 @@ job_noted c ends a b k p x h at little room n =
 
 -- ---- a reply
 
-pub reply_noted : (c : PlainCode) (ends : List (Ends PlainPacket)) (a b : Book) (k : ℕ) (p : Packet) (x : Sender PlainPacket) → IsKept c ends a → parent_at ends k ≡ Some x → a.words < most_counted →
-    HasRoom (of_shape c.shape) (suc k) (plain_packet p) → NotesReply a b k p → IsKept c (on_parent ends k (sender_got (plain_packet p))) b
+pub reply_noted : (c : PlainCode) (ends : List (MailboxEnds PlainPacket)) (a b : Book) (k : ℕ) (p : Packet) (x : Sender PlainPacket) → KeepsExchanges c ends a → parent_at ends k ≡ Some x → a.words < most_counted →
+    HasRoom (of_shape c.shape) (suc k) (plain_packet p) → NotesReply a b k p → KeepsExchanges c (on_parent ends k (sender_got (plain_packet p))) b
 reply_noted c ends a b k p x h at little room n =
     let f = sender_got (plain_packet p) in
     let m = 6 + length p.copies.items + length p.copies.items in
@@ -341,7 +341,7 @@ pub asked_room : (c : PlainCode) (k : ℕ) (jobs : List PlainPacket) (p : PlainP
 asked_room c k jobs p asks = subst (HasRoom (of_shape c.shape) (suc k)) (sym (last_one jobs asks.before p asks.last asks.are)) asks.room
 
 -- a look that finds nothing
-pub kept_none : (c : PlainCode) (ends : List (Ends PlainPacket)) (k : ℕ) (b : Book) (o : Option Packet) → ((p : Packet) → o ≡ Some p → ⊥) → IsKept c ends b → IsKept c (on_parent ends k (sender_seen (in_plain plain_packet o))) b
+pub kept_none : (c : PlainCode) (ends : List (MailboxEnds PlainPacket)) (k : ℕ) (b : Book) (o : Option Packet) → ((p : Packet) → o ≡ Some p → ⊥) → KeepsExchanges c ends b → KeepsExchanges c (on_parent ends k (sender_seen (in_plain plain_packet o))) b
 kept_none c ends k b None never h = kept_looks c ends k b sender_looked (λ x. refl) (λ x. refl) h
 kept_none c ends k b (Some p) never h = absurd (never p refl)
 
@@ -352,7 +352,7 @@ at_some [] k d lt = absurd (omega (arith, lt))
 at_some (x ∷ l) zero d lt = refl
 at_some (x ∷ l) (suc k) d lt = at_some l k d (omega (arith, lt))
 
-no_words : (ends : List (Ends PlainPacket)) → ((k : ℕ) (x : Sender PlainPacket) → parent_at ends k ≡ Some x → (x.sent ≡ []) × (x.got ≡ [])) → mail_words ends ≡ 0
+no_words : (ends : List (MailboxEnds PlainPacket)) → ((k : ℕ) (x : Sender PlainPacket) → parent_at ends k ≡ Some x → (x.sent ≡ []) × (x.got ≡ [])) → mail_words ends ≡ 0
 no_words [] h = refl
 no_words (e ∷ es) h = let a = by_end e.parent (λ x at. h 0 x at) in let b = no_words es (λ k x at. h (suc k) x at) in omega (arith, a, b)
   where
@@ -368,8 +368,8 @@ zero_count r n k ps empty lt none =
     let is : get_or zeros k 0 ≡ 0 = get_or-replicate {A = ℕ} n k 0 0 lt in
     ap (λ l. slice_get l k) empty.counts ∙ at_some zeros k 0 inside ∙ ap Some is ∙ ap (λ (l : List PlainPacket). Some (min (length l) most_counted)) (sym none)
 
-pub kept_new : (c : PlainCode) (ends : List (Ends PlainPacket)) (n : ℕ) (b : Book) → ((k : ℕ) (x : Sender PlainPacket) → parent_at ends k ≡ Some x → (k < n) × (x.sent ≡ []) × (x.got ≡ [])) → b.needed ≡ 0 →
-    IsEmpty b.jobs n → IsEmpty b.replies n → IsKept c ends b
+pub kept_new : (c : PlainCode) (ends : List (MailboxEnds PlainPacket)) (n : ℕ) (b : Book) → ((k : ℕ) (x : Sender PlainPacket) → parent_at ends k ≡ Some x → (k < n) × (x.sent ≡ []) × (x.got ≡ [])) → b.needed ≡ 0 →
+    IsEmpty b.jobs n → IsEmpty b.replies n → KeepsExchanges c ends b
 kept_new c ends n b unused needed jobs replies =
     let none = no_words ends (λ k x at. let u = unused k x at in (u.1, u.2)) in
     record {

@@ -17,7 +17,7 @@ use Rattle.copy_slots.specs.declared.view.Sender.{Sender}
 use Rattle.copy_slots.specs.Ports.{sent, got, taken, parent_at, IsParent}
 use Rattle.tick_jobs.specs.Branches.{replies_to}
 use Rattle.core_seats.specs.Posts.{Mail, AreReplies, HasPosted, HasPostedTaken}
-use Rattle.core_seats.specs.Keeping.{State, Ready, blank, reply}
+use Rattle.core_seats.specs.Keeping.{SchedulerState, IsPacketOfParent, blank, reply}
 use Rattle.core_host.specs.Hosted.{Hosted, code_of, state_in, IsWhole}
 use Rattle.core_host.specs.Owned.{HasOwnPort}
 use Rattle.exchange_meaning.specs.Logged.{Logged, jobs_in, logged, told_to, HasBranch}
@@ -181,7 +181,7 @@ is_parent : (p : PacketAt) (o : Option (Sender PlainPacket)) → IsParent o p �
 is_parent p None h = absurd h
 is_parent p (Some x) h = (x, refl)
 
-ready_parent : (s : State) (k : ℕ) (hand : Option Packet) → Ready s k hand → HasParent s.mail k
+ready_parent : (s : SchedulerState) (k : ℕ) (hand : Option Packet) → IsPacketOfParent s k hand → HasParent s.mail k
 ready_parent s k None (blank is q there room) = is_parent at.Fresh (parent_at s.mail.ends k) is
 ready_parent s k (Some p) (reply is q room) = is_parent at.Held (parent_at s.mail.ends k) is
 

@@ -5,14 +5,14 @@ use Rattle.thread_code.specs.declared.instruction.CodeParts.{CodeParts}
 use Rattle.thread_code.specs.Plain.{plain_code}
 use Rattle.thread_code.specs.Valid.{IsValidCode}
 use Rattle.copy_slots.specs.declared.view.Sender.{Sender}
-use Rattle.copy_slots.specs.Ports.{Ends, parent_at}
+use Rattle.copy_slots.specs.Ports.{MailboxEnds, parent_at}
 use Rattle.core_alloc.specs.Places.{Places}
 use Rattle.core_seats.specs.Posts.{Mail}
 use Rattle.core_seats.specs.Loads.{is_on, IsNewParent, ArePlaced, CanLoad}
 use Rattle.exchange_meaning.proofs.Shaped.{parents_of}
 use Rattle.exchange_log.specs.Kept.{IsUnused}
 
-parent_within : (ends : List (Ends PlainPacket)) (k : ℕ) (x : Sender PlainPacket) → parent_at ends k ≡ Some x → k < length ends
+parent_within : (ends : List (MailboxEnds PlainPacket)) (k : ℕ) (x : Sender PlainPacket) → parent_at ends k ≡ Some x → k < length ends
 parent_within [] k x e = cc
 parent_within (e ∷ es) zero x at = omega arith
 parent_within (e ∷ es) (suc k) x at = let ih = parent_within es k x at in omega (arith, ih)

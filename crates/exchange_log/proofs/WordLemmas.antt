@@ -3,7 +3,7 @@ use Rattle.std.proofs.Common.{◌≡◌, ℕ, suc, ◌+◌, ◌-◌, ◌*◌, �
 use Rattle.forec_kernel.specs.Packets.{PlainPacket}
 use Rattle.thread_code.specs.Plain.{PlainCode}
 use Rattle.copy_slots.specs.declared.view.Sender.{Sender}
-use Rattle.copy_slots.specs.Ports.{Ends, parent_at, sent_by, got_by}
+use Rattle.copy_slots.specs.Ports.{MailboxEnds, parent_at, sent_by, got_by}
 use Rattle.core_seats.specs.Posts.{Mail}
 use Rattle.exchange_meaning.specs.Logged.{ExchangeLog}
 use Rattle.exchange_log.specs.declared.book.Book.{Book}
@@ -20,7 +20,7 @@ pairs_total c k W (p ∷ ps) (q ∷ qs) w h g e =
     let ih = pairs_total c k W ps qs w h.1 g.1 e' in omega (arith, ih, w, h.0.args, h.0.copies, g.0.copies)
 
 -- what is known of mailbox k of these, which is number i + k
-record IsAt (c : PlainCode) (log : ExchangeLog) (es : List (Ends PlainPacket)) (i k : ℕ) : Type 0 where
+record IsAt (c : PlainCode) (log : ExchangeLog) (es : List (MailboxEnds PlainPacket)) (i k : ℕ) : Type 0 where
   pub x : Sender PlainPacket
   pub there : parent_at es k ≡ Some x
   pub even : length x.got ≡ length x.sent
@@ -28,7 +28,7 @@ record IsAt (c : PlainCode) (log : ExchangeLog) (es : List (Ends PlainPacket)) (
   pub replies : HaveRoom c (i + k) x.got
   pub logged : log (suc (i + k)) ≡ both x.sent x.got
 
-sums : (c : PlainCode) (log : ExchangeLog) (es : List (Ends PlainPacket)) (i : ℕ) → ((k : ℕ) → k < length es → IsAt c log es i k) → mail_words es ≡ log_words_from c.shape log (suc i) (length es)
+sums : (c : PlainCode) (log : ExchangeLog) (es : List (MailboxEnds PlainPacket)) (i : ℕ) → ((k : ℕ) → k < length es → IsAt c log es i k) → mail_words es ≡ log_words_from c.shape log (suc i) (length es)
 sums c log [] i h = refl
 sums c log (e ∷ es) i h =
     let a = h 0 (omega arith) in

@@ -5,7 +5,7 @@ use Rattle.forec_kernel.specs.Packed.{HasRoom}
 use Rattle.thread_code.specs.Plain.{PlainCode, plain_code}
 use Rattle.thread_code.specs.Valid.{of_shape}
 use Rattle.copy_slots.specs.declared.view.Sender.{Sender}
-use Rattle.copy_slots.specs.Ports.{Ends, parent_at}
+use Rattle.copy_slots.specs.Ports.{MailboxEnds, parent_at}
 use Rattle.core_seats.specs.Posts.{Mail}
 use Rattle.exchange_log.specs.declared.book.Book.{Book}
 use Rattle.exchange_log.specs.Registers.{AreInside, AreNumbered, packets_in}
@@ -33,7 +33,7 @@ words_of_end None = 0
 words_of_end (Some x) = words_of_jobs x.sent + words_of_replies x.got
 
 -- the words that all jobs and replies of the parents' ends need
-abbrev pub mail_words : List (Ends PlainPacket) → ℕ
+abbrev pub mail_words : List (MailboxEnds PlainPacket) → ℕ
 mail_words [] = 0
 mail_words (e ∷ es) = words_of_end e.parent + mail_words es
 
@@ -55,7 +55,7 @@ reply_notes [] = []
 reply_notes (p ∷ ps) = reply_note p ∷ reply_notes ps
 
 -- the book has all of it
-pub record HasAll (ends : List (Ends PlainPacket)) (b : Book) : Type 0 where
+pub record HasAll (ends : List (MailboxEnds PlainPacket)) (b : Book) : Type 0 where
   pub small : IsSmall b
   pub jobs : AreInside (length b.jobs.args.items) (length b.jobs.copies.items) b.jobs.entries.items
   pub replies : AreInside (length b.replies.args.items) (length b.replies.copies.items) b.replies.entries.items
@@ -70,7 +70,7 @@ HaveRoom c k [] = Unit {0}
 HaveRoom c k (p ∷ ps) = HasRoom (of_shape c.shape) (suc k) p × HaveRoom c k ps
 
 -- All is counted, and where it needs no more words than the book has room for, all is there.
-pub record IsKept (c : PlainCode) (ends : List (Ends PlainPacket)) (b : Book) : Type 0 where
+pub record KeepsExchanges (c : PlainCode) (ends : List (MailboxEnds PlainPacket)) (b : Book) : Type 0 where
   pub needed : b.needed ≡ min (mail_words ends) most_counted
   pub job_counts : (k : ℕ) (x : Sender PlainPacket) → parent_at ends k ≡ Some x → slice_get b.jobs.counts.items k ≡ Some (min (length x.sent) most_counted)
   pub reply_counts : (k : ℕ) (x : Sender PlainPacket) → parent_at ends k ≡ Some x → slice_get b.replies.counts.items k ≡ Some (min (length x.got) most_counted)
@@ -83,7 +83,7 @@ abbrev pub code_in_mail : Mail → PlainCode
 code_in_mail mail = plain_code mail.work.code.value
 
 abbrev pub KeepsMail : Mail → Book → Type 0
-KeepsMail mail b = IsKept (code_in_mail mail) mail.ends b
+KeepsMail mail b = KeepsExchanges (code_in_mail mail) mail.ends b
 
 -- ---- what callers see
 

@@ -16,8 +16,8 @@ use Rattle.thread_code.specs.declared.instruction.Instruction.{Instruction}
 use Rattle.thread_code.specs.declared.instruction.Instruction.TheVariants as instruction
 use Rattle.thread_code.specs.Plain.{PlainBlock, PlainCode}
 use Rattle.thread_code.specs.Valid.{IsFine, IsParOf, IsValidCode, of_shape, branches_in, arguments_of, function_arguments}
-use Rattle.thread_code.specs.Machine.{Point, BranchCopy, Merge, Frame, Caller, Folding, Own, Awaited, Machine, On, Waits, Merges, Failing, Paused, Ended, Trapped, Exceeded, Stuck, onward, with_top, with_arguments, unless_none, turn_taken, put_at, put_value, entered, uses_of, folded, merge_step, returned, living, starts, wakes, awaited, waking, act, step, replied, join}
-use Rattle.thread_code.specs.Alone.{woken, code_engine, CodeAlone}
+use Rattle.thread_code.specs.Machine.{Point, BranchCopy, Merge, Frame, Caller, Folding, Own, Awaited, Machine, On, Waits, Merges, Failing, Paused, Ended, Trapped, Exceeded, Stuck, onward, with_top, with_arguments, unless_none, turn_taken, put_at, put_value, entered, code_uses, folded, merge_step, returned, living, starts, wakes, awaited, waking, act, step, replied, join}
+use Rattle.thread_code.specs.Alone.{woken_machine, code_engine, CodeAlone}
 use Rattle.thread_code.proofs.Unstuck.{IsHere, Good, owner, fetched, fine_at, reached_good}
 use Rattle.exchange_meaning.specs.Logged.{HasBranch, AreTold}
 use Rattle.exchange_meaning.proofs.TellingLemmas.{equal_number}
@@ -115,7 +115,7 @@ module _ (c : PlainCode) (t : ℕ) where
   merge_mine [] m o u = tt
   merge_mine (s ∷ rest) m o u =
       let v = variable_of (of_shape c.shape) s.variable in
-      test_mine (takes_part v.policy (copy_of (uses_of c t) o.copies s.variable).value s.copy) s _ o u v.combine _
+      test_mine (takes_part v.policy (copy_of (code_uses c t) o.copies s.variable).value s.copy) s _ o u v.combine _
 
   return_mine : (n : ℤ) (fs : List Frame) (o : Own) (u : ℕ) → WaitsForOwn (returned c t n fs o u)
   return_mine n [] o u = tt
@@ -157,10 +157,10 @@ module _ (c : PlainCode) (t : ℕ) where
   act_mine (instruction.Put v) p fs o u h = top_mine p.stack u _ (λ n rest. tt)
   act_mine (instruction.GetAt v n place) p fs o u h =
       top_mine p.stack u _ (λ i rest. unless_mine (index_in n i) place Index (u + 1)
-      (λ k. On (onward p ((copy_of (uses_of c t) o.copies (v + k)).value ∷ rest)) fs o (u + 1)) (λ k. tt))
+      (λ k. On (onward p ((copy_of (code_uses c t) o.copies (v + k)).value ∷ rest)) fs o (u + 1)) (λ k. tt))
   act_mine (instruction.PutAt v n place) p fs o u h =
       top_mine p.stack u _ (λ x below. top_mine below u _ (λ i rest. unless_mine (index_in n i) place Index (u + 1)
-      (λ k. On (onward p rest) fs (put_value (uses_of c t) (v + k) x o) (u + 1)) (λ k. tt)))
+      (λ k. On (onward p rest) fs (put_value (code_uses c t) (v + k) x o) (u + 1)) (λ k. tt)))
   act_mine (instruction.Unary op) p fs o u h = top_mine p.stack u _ (λ n rest. tt)
   act_mine (instruction.Binary op place) p fs o u h =
       top_mine p.stack u _ (λ y below. top_mine below u _ (λ x rest. unless_mine (binary_of op x y) (place_or place) Divide (u + 1)
@@ -211,7 +211,7 @@ module _ (c : PlainCode) (t : ℕ) where
   join_mine rs (Exceeded u) h = tt
   join_mine rs (Stuck u) h = tt
 
-  woken_mine : (values : List ℤ) (m : Machine) → WaitsForOwn m → WaitsForOwn (woken values m)
+  woken_mine : (values : List ℤ) (m : Machine) → WaitsForOwn m → WaitsForOwn (woken_machine values m)
   woken_mine values (Paused wake o u) h = tt
   woken_mine values (On p fs o u) h = tt
   woken_mine values (Waits w o u) h = h

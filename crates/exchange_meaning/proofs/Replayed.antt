@@ -77,7 +77,7 @@ module _ (k : PlainKernel) (fine : WellFormed k) (below : (t b : ℕ) → HasBra
       }
 
   told_by_root : (log : ExchangeLog) (before : List TickInput) (last : TickInput) (reply : Reply) (each : AllAgree (KernelAlone k) k.shape log) (root : RunsTicks (KernelAlone k) k.shape log (before ++ last ∷ [])) →
-      last_reply root.tells.outputs ≡ Some reply → composed.Tells k (tick k last.budget (state_after k Fresh before) last.row) reply
+      last_reply root.tells.outputs ≡ Some reply → composed.MeansReply k (tick k last.budget (state_after k Fresh before) last.row) reply
   told_by_root log before last reply each root replied =
       let f = by_ticks log each (before ++ last ∷ []) root in
       let T = root.tells in
@@ -121,10 +121,10 @@ module _ (c : PlainCode) (k : PlainKernel) (valid : IsValidCode c) (fine : WellF
       (subst (λ s. IsReplayed (KernelAlone k) s turns log) (sym stands.shape) (replayed_of k fine below_k parents_k log turns h))
 
   root_tells : (log : ExchangeLog) (before : List TickInput) (last : TickInput) (reply : Reply) (each : AllAgree (CodeAlone c) c.shape log) (root : RunsTicks (CodeAlone c) c.shape log (before ++ last ∷ [])) →
-      last_reply root.tells.outputs ≡ Some reply → composed.Tells k (tick k last.budget (state_after k Fresh before) last.row) reply
+      last_reply root.tells.outputs ≡ Some reply → composed.MeansReply k (tick k last.budget (state_after k Fresh before) last.row) reply
   root_tells log before last reply each root replied =
       subst (λ s. (each : AllAgree (KernelAlone k) s log) (root : RunsTicks (KernelAlone k) s log (before ++ last ∷ [])) → last_reply root.tells.outputs ≡ Some reply →
-      composed.Tells k (tick k last.budget (state_after k Fresh before) last.row) reply) (sym stands.shape) (told_by_root k fine below_k log before last reply)
+      composed.MeansReply k (tick k last.budget (state_after k Fresh before) last.row) reply) (sym stands.shape) (told_by_root k fine below_k log before last reply)
       (each_as (CodeAlone c) (KernelAlone k) c.shape log to_kernel each) (root_as (CodeAlone c) (KernelAlone k) c.shape log some_is to_kernel (before ++ last ∷ []) root) replied
 
   log_of_kernel : (jobs : List Job) (log : ExchangeLog) → LogOf (CodeAlone c) c.shape jobs log → LogOf (KernelAlone k) k.shape jobs log

@@ -5,7 +5,7 @@ use Rattle.forec_kernel.specs.declared.shape.Outcome.TheVariants as outcome
 use Rattle.forec_kernel.specs.Engine.{Job, Wake, Reply, WasPaused, WasEnded, WasTrapped, WasOver, Engine, Rest, Nothing, Exchange, Output, Alone, Answered, pair_forks, pair_all, Allowed, AllReply, last_reply, Answers}
 use Rattle.forec_kernel.specs.Shapes.{PlainKernel}
 use Rattle.forec_kernel.specs.Texts.{uses_in}
-use Rattle.forec_kernel.specs.Ticks.{State, Fresh, After_tick, Tick, tick, with_row, unmarked}
+use Rattle.forec_kernel.specs.Ticks.{TickState, Fresh, After_tick, Tick, tick, with_row, unmarked}
 use Rattle.forec_kernel.specs.Solo.{values_in, kernel_engine, KernelAlone}
 use Rattle.forec_kernel.specs.Composed.{TickInput, tick_job, tick_jobs, next_state, state_after}
 use Rattle.forec_kernel.specs.Composed as composed
@@ -112,12 +112,12 @@ module _ (k : PlainKernel) (apart : BranchesApart k) (log : ExchangeLog) (tells 
 
   -- the reply to the last tick so far
   pub tick_told : (old : List TickInput) (turn : TickInput) (xs ys : List Exchange) (os ps : List Output) → Cut xs ys os ps → (r : Reply) → last_reply os ≡ Some r →
-      map (λ x. x.job) xs ≡ tick_jobs k Fresh (old ++ turn ∷ []) → composed.Tells k (tick k turn.budget (state_after k Fresh old) turn.row) r × KeptBy (next_state k (state_after k Fresh old) turn) r
+      map (λ x. x.job) xs ≡ tick_jobs k Fresh (old ++ turn ∷ []) → composed.MeansReply k (tick k turn.budget (state_after k Fresh old) turn.row) r × KeptBy (next_state k (state_after k Fresh old) turn) r
   tick_told old turn xs ys os ps c r last jobs =
       let a = subst (λ js. Answers (KernelAlone k) (length k.threads) 0 js r) jobs (answer_at xs ys os ps c r last) in (each_tick k apart old turn r a, copies_kept k apart old turn r a)
 
   -- the job of a tick, either way
-  wake_is : (state : State) (turn : TickInput) (copies : List VarCopy) → HasCopies state copies →
+  wake_is : (state : TickState) (turn : TickInput) (copies : List VarCopy) → HasCopies state copies →
       tick_job k state turn ≡ Wake (values_in (with_row (uses_in k.shape.threads 0) k.shape.inputs turn.row (unmarked copies))) turn.budget
   wake_is Fresh turn copies h = absurd h
   wake_is (After_tick T) turn copies h = ap (λ cs. Wake (values_in (with_row (uses_in k.shape.threads 0) k.shape.inputs turn.row (unmarked cs))) turn.budget) h
@@ -185,7 +185,7 @@ module _ (k : PlainKernel) (apart : BranchesApart k) (log : ExchangeLog) (tells 
 
   -- ---- and the other way round
 
-  paused_reply : (t : Tick) (o : Output) (os : List Output) (r : Reply) → o.reply ≡ Some r → composed.Tells k t r → t.outcome ≡ outcome.Paused → PausedNext o os
+  paused_reply : (t : Tick) (o : Output) (os : List Output) (r : Reply) → o.reply ≡ Some r → composed.MeansReply k t r → t.outcome ≡ outcome.Paused → PausedNext o os
   paused_reply t o os (WasPaused copies u) e h p = record { copies = copies; u = u; is = e }
   paused_reply t o os (WasEnded copies u) e h p = let f = sym p ∙ h.0 in cc
   paused_reply t o os (WasTrapped place trap u) e h p = let f = sym p ∙ h in cc

@@ -4,7 +4,7 @@ use Rattle.forec_kernel.specs.Engine.{Job, Reply, Exchange, Output, last_reply, 
 use Rattle.forec_kernel.specs.Shapes.{PlainKernel}
 use Rattle.forec_kernel.specs.Solo.{KernelAlone}
 use Rattle.forec_kernel.specs.Ticks.{Fresh, tick}
-use Rattle.forec_kernel.specs.Composed.{TickInput, state_after, Tells}
+use Rattle.forec_kernel.specs.Composed.{TickInput, state_after, MeansReply}
 use Rattle.forec_kernel.specs.WellFormed.{WellFormed}
 use Rattle.thread_code.specs.Plain.{PlainCode}
 use Rattle.thread_code.specs.Valid.{IsValidCode}
@@ -25,7 +25,7 @@ abbrev pub ReplaysTell : Type 0
 ReplaysTell =
     (c : PlainCode) (k : PlainKernel) → IsValidCode c → WellFormed k → Stands c k → (log : ExchangeLog) → AllAgree (CodeAlone c) c.shape log →
     (before : List TickInput) (last : TickInput) (root : RunsTicks (CodeAlone c) c.shape log (before ++ last ∷ [])) (reply : Reply) →
-    last_reply root.tells.outputs ≡ Some reply → Tells k (tick k last.budget (state_after k Fresh before) last.row) reply
+    last_reply root.tells.outputs ≡ Some reply → MeansReply k (tick k last.budget (state_after k Fresh before) last.row) reply
 
 -- The log of these jobs is the same for a code and for the kernel for which it stands.
 abbrev pub LogsAgree : Type 0

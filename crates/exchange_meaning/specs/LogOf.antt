@@ -3,7 +3,7 @@ use Rattle.std.specs.Prelude.{ℕ, ◌≡◌, ◌<◌, List, [], ◌∷◌, map,
 use Rattle.forec_kernel.specs.declared.shape.Outcome.TheVariants as outcome
 use Rattle.forec_kernel.specs.Engine.{Job, Exchange, Output, pair_all, Allowed, Answers}
 use Rattle.forec_kernel.specs.Shapes.{PlainShape, PlainKernel}
-use Rattle.forec_kernel.specs.Ticks.{State, Fresh, tick}
+use Rattle.forec_kernel.specs.Ticks.{TickState, Fresh, tick}
 use Rattle.forec_kernel.specs.Composed.{TickInput, tick_jobs, next_state}
 use Rattle.forec_kernel.specs.Solo.{KernelAlone}
 use Rattle.exchange_meaning.specs.Logged.{ExchangeLog, jobs_in}
@@ -23,7 +23,7 @@ pub record LogOf (run : ℕ → List Exchange → List Output → Type 0) (s : P
   pub each : (t : ℕ) → 0 < t → t < length s.threads → IsLogged run s log t (jobs_in (log t))
 
 -- each tick but the last pauses
-abbrev pub AllButLastPause : PlainKernel → State → List TickInput → Type 0
+abbrev pub AllButLastPause : PlainKernel → TickState → List TickInput → Type 0
 AllButLastPause k old [] = Unit {0}
 AllButLastPause k old (turn ∷ []) = Unit {0}
 AllButLastPause k old (turn ∷ next ∷ turns) = ((tick k turn.budget old turn.row).outcome ≡ outcome.Paused) × AllButLastPause k (next_state k old turn) (next ∷ turns)

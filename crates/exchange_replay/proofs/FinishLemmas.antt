@@ -5,7 +5,7 @@ use Rattle.forec_kernel.specs.Engine.{Job, Reply, Written, Exchange, Nothing, An
 use Rattle.thread_code.specs.Plain.{PlainCode}
 use Rattle.thread_code.specs.Valid.{IsValidCode}
 use Rattle.thread_code.specs.Machine.{Machine}
-use Rattle.thread_code.specs.Alone.{block_of, units_of, code_engine, CodeAlone}
+use Rattle.thread_code.specs.Alone.{block_of, machine_units, code_engine, CodeAlone}
 use Rattle.thread_code.proofs.Steady.{code_steady}
 use Rattle.core_machine.specs.declared.thread.Thread.{Thread}
 use Rattle.core_machine.specs.Threads.{Loaded, HasSettled, StandsFor}
@@ -82,7 +82,7 @@ module _ (c : PlainCode) (valid : IsValidCode c) (l : Log) (log : ExchangeLog) (
       let within = units_within c valid h loaded settled numbers jobs job i.log i.stands in
       let at = inside c valid h loaded settled numbers jobs job i.log i.stands in
       let first = forks_bound c valid h loaded settled numbers jobs job i.log i.stands in
-      let more = times_grow (length (block_of c t).steps + 2) (units_of at.machine) a (omega (arith, within, at.allowance, allow)) in
+      let more = times_grow (length (block_of c t).steps + 2) (machine_units at.machine) a (omega (arith, within, at.allowance, allow)) in
       omega (arith, first, more)
 
   -- so many forks can still come

@@ -15,8 +15,8 @@ use Rattle.combine_tree.specs.declared.packet.PacketKind.{PacketKind}
 use Rattle.combine_tree.specs.declared.packet.PacketKind.TheVariants as kind
 use Rattle.combine_tree.specs.Plain.{plain_packet, plain_kind}
 use Rattle.core_machine.specs.declared.thread.Thread.{Thread}
-use Rattle.core_machine.specs.Threads.{Loaded, StandsFor, IsResting, HasPaused, CanBegin, Gives}
-use Rattle.core_machine.specs.Replies.{Replies_by}
+use Rattle.core_machine.specs.Threads.{Loaded, StandsFor, IsResting, HasPaused, CanBegin, RepliesToLast}
+use Rattle.core_machine.specs.Replies.{RepliesByKind}
 use Rattle.tick_jobs.specs.Told.{DidJobs}
 use Rattle.tick_jobs.proofs.Logs.{job_begins, Does, job_does}
 use Rattle.exchange_meaning.specs.Logged.{Logged, ExchangeLog, jobs_in, RepliesAre}
@@ -209,7 +209,7 @@ module _ (c : PlainCode) (valid : IsValidCode c) (l : Log) (log : ExchangeLog) (
 
   -- it has replied
   module _ (w2 : Walk) (number : w2.thread.number ≡ t) (loaded : Loaded c w2.thread) (resting : IsResting w2.thread) (i : WalksJob c l log w2 (jobs_in passed) one.job) (own2 own3 : Track)
-      (gives : (xs : List Exchange) → StandsFor c w2.thread xs → Gives c w2.thread.number xs (plain_packet own2.written)) (by : Replies_by w2.thread own2.written.kind)
+      (gives : (xs : List Exchange) → StandsFor c w2.thread xs → RepliesToLast c w2.thread.number xs (plain_packet own2.written)) (by : RepliesByKind w2.thread own2.written.kind)
       (same : Bool) (passes : (q : Reply) → IsReply (plain_packet own2.written) q → PassesReply c.shape t l own2 own3 same one.reply q left) where
     does : Does c w2.thread (PassedBy c l log w2) (jobs_in passed ++ one.job ∷ []) (plain_packet own2.written)
     does = job_does c w2.thread (PassedBy c l log w2) (jobs_in passed) one.job (plain_packet own2.written) i gives
@@ -247,7 +247,7 @@ module _ (c : PlainCode) (valid : IsValidCode c) (l : Log) (log : ExchangeLog) (
             resting = resting;
             walked = walked;
             replies = replies;
-            paused = λ e. subst (Replies_by w2.thread) (sym (ap (λ (q : Packet). q.kind) p.kept) ∙ e) by;
+            paused = λ e. subst (RepliesByKind w2.thread) (sym (ap (λ (q : Packet). q.kind) p.kept) ∙ e) by;
             last = λ A z e. subst (λ q. IsReply (plain_packet own3.written) q) (r ∙ ap (λ (y : Logged). y.reply) (last_one passed A one z e)) (subst (λ q. IsReply (plain_packet q) does.reply) (sym p.kept) does.is);
             first = λ e. absurd (not_empty passed one e);
           };

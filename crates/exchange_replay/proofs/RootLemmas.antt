@@ -22,8 +22,8 @@ use Rattle.combine_tree.specs.declared.packet.Packet.{Packet}
 use Rattle.combine_tree.specs.declared.packet.PacketKind.{PacketKind}
 use Rattle.combine_tree.specs.declared.packet.PacketKind.TheVariants as kind
 use Rattle.combine_tree.specs.Plain.{plain_packet, plain_kind, blank_packet}
-use Rattle.core_machine.specs.Threads.{Loaded, StandsFor, IsResting, Gives}
-use Rattle.core_machine.specs.Replies.{Replies_by}
+use Rattle.core_machine.specs.Threads.{Loaded, StandsFor, IsResting, RepliesToLast}
+use Rattle.core_machine.specs.Replies.{RepliesByKind}
 use Rattle.tick_jobs.specs.Jobs.{job_of, job_with, copies_before}
 use Rattle.tick_jobs.specs.Outcomes.{HasOutputs, outcome_in}
 use Rattle.tick_jobs.specs.Ready.{IsReady}
@@ -254,7 +254,7 @@ module _ (c : PlainCode) (valid : IsValidCode c) (l : Log) (log : ExchangeLog) (
 
   -- it is done
   module _ (r2 : Replayer) (number : r2.walk.thread.number ≡ 0) (loaded : Loaded c r2.walk.thread) (resting : IsResting r2.walk.thread) (i : WalksJob c l log r2.walk (its_jobs c valid l log r turns h) job)
-      (gives : (xs : List Exchange) → StandsFor c r2.walk.thread xs → Gives c r2.walk.thread.number xs (plain_packet r2.root)) (by : Replies_by r2.walk.thread r2.root.kind) (room : HasRoom (of_shape c.shape) 0 (plain_packet r2.root))
+      (gives : (xs : List Exchange) → StandsFor c r2.walk.thread xs → RepliesToLast c r2.walk.thread.number xs (plain_packet r2.root)) (by : RepliesByKind r2.walk.thread r2.root.kind) (room : HasRoom (of_shape c.shape) 0 (plain_packet r2.root))
       (goes : r2.live ≡ true → r2.root.kind ≡ kind.Paused) (o : Outcome) (told : o ≡ outcome_in r2.root.kind) (outputs : List ℤ) (values : HasOutputs o → outputs ≡ values_of (uses_in c.shape.threads 0) r2.root.copies.items c.shape.outputs) where
     pub has_ticked : HasTickedAs c l log r2 turns turn o outputs
     unfolding its_jobs
@@ -278,7 +278,7 @@ module _ (c : PlainCode) (valid : IsValidCode c) (l : Log) (log : ExchangeLog) (
                 let k = goes e in
                 let x = paused_is (plain_packet r2.root) d.reply d.is (ap plain_kind k) in
                 paused x.0 k (last ∙ ap Some x.1);
-            paused = λ e k. subst (Replies_by r2.walk.thread) k by;
+            paused = λ e k. subst (RepliesByKind r2.walk.thread) k by;
           };
           reply = d.reply;
           last = last;

@@ -6,8 +6,8 @@ use Rattle.forec_tree.specs.Terms.{Term}
 use Rattle.forec_tree.specs.Spelling.{Spelt, tokens, IsWithin, Whole}
 use Rattle.expr_parser.specs.Input.{Input, input, kind_ahead, max_level}
 use Rattle.expr_parser.specs.Meaning.{ends}
-use Rattle.expr_parser.specs.Reading.{expr}
-use Rattle.expr_parser.specs.Spelled.{reads, IsBetween}
+use Rattle.expr_parser.specs.Reading.{read_expression}
+use Rattle.expr_parser.specs.Spelled.{reads, IsSpelledBetween}
 use Rattle.expr_parser.proofs.Exact.{Part, part, Any, comes_within, read_at}
 use Rattle.expr_parser.proofs.ExpressionSound.{sound, value_by}
 use Rattle.expr_parser.proofs.ExpressionComplete.{complete_whole}
@@ -15,9 +15,9 @@ use Rattle.expr_parser.proofs.ExpressionComplete.{complete_whole}
 parted : {v w : ℕ} {x : Term} {ls : List Spelt} {k : Option TokenKind} → Part Any Whole v x w ls k → Whole x v ls × (w ≡ v)
 parted (part s c) = (s, refl)
 
-pub read_is_spelled : (x : Term) (i j : Input) → i.level ≤ max_level → reads i ≡ Ok (x, j) → IsBetween x i j
+pub read_is_spelled : (x : Term) (i j : Input) → i.level ≤ max_level → reads i ≡ Ok (x, j) → IsSpelledBetween x i j
 read_is_spelled x i j small h =
-    let m = (value_by max_level (expr max_level (suc max_level)) (sound max_level (suc max_level))).sound i j x small h in
+    let m = (value_by max_level (read_expression max_level (suc max_level)) (sound max_level (suc max_level))).sound i j x small h in
     let s = parted m.spells in
     record { spelt = m.spelt; are = m.front; spells = s.0; within = m.within; level = s.1 }
 

@@ -10,7 +10,7 @@ use Rattle.forec_tree.specs.declared.token.Mark.TheVariants as mark
 use Rattle.forec_tree.specs.Terms as plain
 use Rattle.forec_tree.specs.Terms.{Term}
 use Rattle.forec_tree.specs.Spelling as sp
-use Rattle.forec_tree.specs.Spelling.{Spelt, at, IsMark, IsName, IsNumber, name_at, mark_of, sign_of, level_of, joined, listed, tokens, Spells, Whole, Brackets, Indexes, Passes, Arguments, whole, brackets, indexes, passes_none, passes, one, more}
+use Rattle.forec_tree.specs.Spelling.{Spelt, at, IsMark, IsNameToken, IsNumberToken, name_at, mark_of, sign_of, level_of, operator_term, listed, tokens, Spells, Whole, Brackets, SpellsIndex, SpellsArguments, SpellsExpressions, whole, brackets, indexes, passes_none, passes, one, more}
 use Rattle.expr_parser.specs.declared.fixed.Fixed.TheVariants as fixed
 use Rattle.expr_parser.specs.declared.meaning.Start.TheVariants as beg
 use Rattle.expr_parser.specs.declared.meaning.Infix.TheVariants as inf
@@ -18,9 +18,9 @@ use Rattle.expr_parser.specs.declared.meaning.Behind.TheVariants as follow
 use Rattle.expr_parser.specs.declared.fault.Fault.{Fault}
 use Rattle.expr_parser.specs.declared.fault.Fault.TheVariants.{Deep}
 use Rattle.expr_parser.specs.Input.{Input, input, Parser, Outcome, and_then, ◌>>=◌, pure, kind_ahead}
-use Rattle.expr_parser.specs.Meaning.{start_of, infix_of, after_of, binds, is_fixed}
+use Rattle.expr_parser.specs.Meaning.{term_start, infix_of, after_of, binds, is_fixed}
 use Rattle.expr_parser.specs.Reading as reading
-use Rattle.expr_parser.specs.Reading.{ahead, expr, climb, prefix, operation, close}
+use Rattle.expr_parser.specs.Reading.{binding_ahead, read_expression, climb, prefix, operation, close}
 use Rattle.expr_parser.proofs.Spans.{tokens_append, longer, first, first-is}
 use Rattle.expr_parser.proofs.Exact.{part, Reading, reading, both, mapped, inside, done, on, off, Above, Follows, comes, too_high, above_front, above_back, follow_behind, follow_as, map_to, reads_by, read_at}
 use Rattle.expr_parser.proofs.Leaves.{name_is, number_is, a_number, raises, opens_then, encloses, Listed, end_of_list, next_of_list, full_commas, Full, full, Filled, is_so, close_ok}
@@ -48,13 +48,13 @@ rises (sp.binary t op le a h b) = omega (arith, rises a, rises b)
 rises (sp.choose t colon le a h b k c) = omega (arith, rises a, rises b, rises c)
 
 -- what a spelling begins with
-pub indexes_first : {x : Term} {v : ℕ} {ls : List Spelt} → Indexes x v ls → (k : Option TokenKind) → first ls k ≡ Some (kind.Mark mark.LeftSquare)
+pub indexes_first : {x : Term} {v : ℕ} {ls : List Spelt} → SpellsIndex x v ls → (k : Option TokenKind) → first ls k ≡ Some (kind.Mark mark.LeftSquare)
 indexes_first (indexes right hl s hr) k = rw hl
 
 pub brackets_first : {x : Term} {v : ℕ} {ls : List Spelt} → Brackets x v ls → (k : Option TokenKind) → first ls k ≡ Some (kind.Mark mark.LeftRound)
 brackets_first (brackets right hl s hr) k = rw hl
 
-pub passes_first : {xs : List Term} {v : ℕ} {ls : List Spelt} → Passes xs v ls → (k : Option TokenKind) → first ls k ≡ Some (kind.Mark mark.LeftRound)
+pub passes_first : {xs : List Term} {v : ℕ} {ls : List Spelt} → SpellsArguments xs v ls → (k : Option TokenKind) → first ls k ≡ Some (kind.Mark mark.LeftRound)
 passes_first (passes_none hl hr) k = rw hl
 passes_first (passes right hl s hr) k = rw hl
 
@@ -101,7 +101,7 @@ begun (sp.choose t colon {ls = ls} {ms = ms} le a h b k c) = begun_append ls _ (
 pub begun_whole : {v : ℕ} {x : Term} {ls : List Spelt} → Whole x v ls → Begun ls
 begun_whole (whole s) = begun s
 
-pub begun_arguments : {v : ℕ} {xs : List Term} {ls : List Spelt} → Arguments xs v ls → Begun ls
+pub begun_arguments : {v : ℕ} {xs : List Term} {ls : List Spelt} → SpellsExpressions xs v ls → Begun ls
 begun_arguments (one s) = begun_whole s
 begun_arguments (more comma {ls = ls} s h r) = begun_append ls _ (begun_whole s)
 
@@ -139,22 +139,22 @@ lt_false a b h = grind arith
 
 module _ (limit : ℕ) where
   module _ (ex : ℕ → Parser Term) where
-    climb_stop : (least n : ℕ) (left : Term) (i : Input) → ahead i < least → climb limit ex least n left i ≡ Ok (left, i)
+    climb_stop : (least n : ℕ) (left : Term) (i : Input) → binding_ahead i < least → climb limit ex least n left i ≡ Ok (left, i)
     unfolding climb
-    climb_stop least zero left i h = let e : nat_lt (ahead i) least ≡ true = lt_true _ _ h in rw e
-    climb_stop least (suc n) left i h = let e : nat_lt (ahead i) least ≡ true = lt_true _ _ h in rw e
+    climb_stop least zero left i h = let e : nat_lt (binding_ahead i) least ≡ true = lt_true _ _ h in rw e
+    climb_stop least (suc n) left i h = let e : nat_lt (binding_ahead i) least ≡ true = lt_true _ _ h in rw e
 
-    climb_on : (least n : ℕ) (left longer : Term) (i j : Input) → least ≤ ahead i → operation limit ex left i ≡ Ok (longer, j) → climb limit ex least (suc n) left i ≡ climb limit ex least n longer j
+    climb_on : (least n : ℕ) (left longer : Term) (i j : Input) → least ≤ binding_ahead i → operation limit ex left i ≡ Ok (longer, j) → climb limit ex least (suc n) left i ≡ climb limit ex least n longer j
     unfolding climb
-    climb_on least n left longer i j h s = let e : nat_lt (ahead i) least ≡ false = lt_false _ _ h in rw (e, s)
+    climb_on least n left longer i j h s = let e : nat_lt (binding_ahead i) least ≡ false = lt_false _ _ h in rw (e, s)
 
     climbing_ok : (least : ℕ) (x : Term) (i j : Input) → prefix limit ex i ≡ Ok (x, j) → reading.climbing limit ex least i ≡ climb limit ex least (length j.rest) x j
     unfolding reading.climbing reading.operations
     climbing_ok least x i j h = rw h
 
-    climb_deep : (least n : ℕ) (left : Term) (i : Input) (e : Fault) → least ≤ ahead i → operation limit ex left i ≡ Err e → climb limit ex least (suc n) left i ≡ Err e
+    climb_deep : (least n : ℕ) (left : Term) (i : Input) (e : Fault) → least ≤ binding_ahead i → operation limit ex left i ≡ Err e → climb limit ex least (suc n) left i ≡ Err e
     unfolding climb
-    climb_deep least n left i e h s = let f : nat_lt (ahead i) least ≡ false = lt_false _ _ h in rw (f, s)
+    climb_deep least n left i e h s = let f : nat_lt (binding_ahead i) least ≡ false = lt_false _ _ h in rw (f, s)
 
     climbing_deep : (least : ℕ) (i : Input) (e : Fault) → prefix limit ex i ≡ Err e → reading.climbing limit ex least i ≡ Err e
     unfolding reading.climbing
@@ -165,23 +165,23 @@ module _ (limit : ℕ) where
         → Follows limit (plain.Un t.place op x) w (at t (v + 1) ∷ ls) rest (prefix limit ex (input (t ∷ (tokens ls ++ rest)) v))
     unfolding prefix
     sign_follows t v w op x ls rest h s =
-        let k : start_of (Some t.kind) ≡ beg.Sign op = rw h (sign_start op) in
+        let k : term_start (Some t.kind) ≡ beg.Sign op = rw h (sign_start op) in
         rw k (opens_then (λ t. ex 12 >>= (λ x. pure (plain.Un t.place op x))) (raises limit t (tokens ls ++ rest) v) (λ small. follow_as (λ x. pure (plain.Un t.place op x)) (s small) refl))
 
     join_follows : (t : Token) (v w : ℕ) (op : Operator) (a b : Term) (rs : List Spelt) (rest : List Token) → IsMark (mark_of op) t
         → (v + 1 ≤ limit → Follows limit b w rs rest (ex (level_of op + 1) (input (tokens rs ++ rest) (v + 1))))
-        → Follows limit (joined op t.place a b) w (at t (v + 1) ∷ rs) rest (operation limit ex a (input (t ∷ (tokens rs ++ rest)) v))
+        → Follows limit (operator_term op t.place a b) w (at t (v + 1) ∷ rs) rest (operation limit ex a (input (t ∷ (tokens rs ++ rest)) v))
     unfolding operation
     join_follows t v w op a b rs rest h s =
         let k : infix_of (Some t.kind) ≡ inf.Joins op = rw h (mark_infix op) in
-        rw k (opens_then (λ t. ex (level_of op + 1) >>= (λ b. pure (joined op t.place a b))) (raises limit t (tokens rs ++ rest) v)
-        (λ small. follow_as (λ b. pure (joined op t.place a b)) (s small) refl))
+        rw k (opens_then (λ t. ex (level_of op + 1) >>= (λ b. pure (operator_term op t.place a b))) (raises limit t (tokens rs ++ rest) v)
+        (λ small. follow_as (λ b. pure (operator_term op t.place a b)) (s small) refl))
 
     choose_follows : (t colon : Token) (v w x : ℕ) (test a b : Term) (ms rs : List Spelt) (rest : List Token) → IsMark mark.Question t → IsMark mark.Colon colon
         → (v + 1 ≤ limit → Follows limit a w ms (colon ∷ (tokens rs ++ rest)) (ex 1 (input (tokens ms ++ (colon ∷ (tokens rs ++ rest))) (v + 1))))
         → (v + 1 ≤ limit → ex 1 (input (tokens ms ++ (colon ∷ (tokens rs ++ rest))) (v + 1)) ≡ Ok (a, input (colon ∷ (tokens rs ++ rest)) w) → Follows limit b x rs rest (ex 1 (input (tokens rs ++ rest) w)))
         → Follows limit (plain.Choose t.place test a b) x (at t (v + 1) ∷ (ms ++ (at colon w ∷ rs))) rest (operation limit ex test (input (t ∷ (tokens (ms ++ (at colon w ∷ rs)) ++ rest)) v))
-    unfolding operation reading.chosen
+    unfolding operation reading.choose_term
     choose_follows t colon v w x test a b ms rs rest h k former latter =
         let q : infix_of (Some t.kind) ≡ inf.Question = rw h in
         rw q (opens_then choose (raises limit t (tokens (ms ++ (at colon w ∷ rs)) ++ rest) v)
@@ -204,163 +204,163 @@ module _ (limit : ℕ) where
   pub record HasRead (d n : ℕ) (x : Term) (i j : Input) : Type 0 where
     pub turns : ℕ
     pub enough : length j.rest ≤ turns
-    pub reads : expr limit (suc d) n i ≡ climb limit (expr limit d) n turns x j
+    pub reads : read_expression limit (suc d) n i ≡ climb limit (read_expression limit d) n turns x j
 
   -- the same, unless a token before opens a level above the limit
   pub data Arrives (d n : ℕ) (x : Term) (ls : List Spelt) (i : Input) (rest : List Token) (w : ℕ) : Type 0 where
     arrives : HasRead d n x i (input rest w) → Arrives d n x ls i rest w
-    too_deep : {l : ℕ} → Above limit l rest ls → expr limit (suc d) n i ≡ Err (Deep l) → Arrives d n x ls i rest w
+    too_deep : {l : ℕ} → Above limit l rest ls → read_expression limit (suc d) n i ≡ Err (Deep l) → Arrives d n x ls i rest w
 
   abbrev pub Completes : ℕ → Term → ℕ → List Spelt → ℕ → Type 0
   Completes m x v ls w = (d n : ℕ) (rest : List Token) → limit ≤ d + v → 1 ≤ n → n ≤ m → EndsLevel m (kind_ahead rest) → Arrives d n x ls (input (tokens ls ++ rest) v) rest w
 
   pub finish : (m : ℕ) (x : Term) (v : ℕ) (ls : List Spelt) (w : ℕ) → Completes m x v ls w → (d n : ℕ) (rest : List Token)
       → v ≤ limit → limit < d + v → 1 ≤ n → n ≤ m → EndsLevel m (kind_ahead rest) → binds (infix_of (kind_ahead rest)) < n
-      → Follows limit x w ls rest (expr limit d n (input (tokens ls ++ rest) v))
+      → Follows limit x w ls rest (read_expression limit d n (input (tokens ls ++ rest) v))
   finish m x v ls w c zero n rest small deep pos le stops low = absurd (omega arith)
   finish m x v ls w c (suc d) n rest small deep pos le stops low = of (c d n rest (omega arith) pos le stops)
     where
-      of : Arrives d n x ls (input (tokens ls ++ rest) v) rest w → Follows limit x w ls rest (expr limit (suc d) n (input (tokens ls ++ rest) v))
-      of (arrives g) = rw (g.reads ∙ climb_stop (expr limit d) n g.turns x (input rest w) low) comes
+      of : Arrives d n x ls (input (tokens ls ++ rest) v) rest w → Follows limit x w ls rest (read_expression limit (suc d) n (input (tokens ls ++ rest) v))
+      of (arrives g) = rw (g.reads ∙ climb_stop (read_expression limit d) n g.turns x (input rest w) low) comes
       of (too_deep a e) = rw e (too_high a)
 
-  goes_prefix : (d n : ℕ) (x : Term) (i j : Input) → prefix limit (expr limit d) i ≡ Ok (x, j) → HasRead d n x i j
-  unfolding expr
-  goes_prefix d n x i j h = record { turns = length j.rest; enough = omega arith; reads = climbing_ok (expr limit d) n x i j h }
+  goes_prefix : (d n : ℕ) (x : Term) (i j : Input) → prefix limit (read_expression limit d) i ≡ Ok (x, j) → HasRead d n x i j
+  unfolding read_expression
+  goes_prefix d n x i j h = record { turns = length j.rest; enough = omega arith; reads = climbing_ok (read_expression limit d) n x i j h }
 
-  prefix_arrives : (d n : ℕ) {x : Term} {w : ℕ} {ls : List Spelt} {i : Input} {rest : List Token} (o : Outcome Term) → prefix limit (expr limit d) i ≡ o → Follows limit x w ls rest o → Arrives d n x ls i rest w
-  unfolding expr
+  prefix_arrives : (d n : ℕ) {x : Term} {w : ℕ} {ls : List Spelt} {i : Input} {rest : List Token} (o : Outcome Term) → prefix limit (read_expression limit d) i ≡ o → Follows limit x w ls rest o → Arrives d n x ls i rest w
+  unfolding read_expression
   prefix_arrives d n {x} {w} {ls} {i} {rest} o e comes = arrives (goes_prefix d n x i (input rest w) e)
-  prefix_arrives d n {x} {w} {ls} {i} {rest} o e (too_high {l} a) = too_deep a (climbing_deep (expr limit d) n i (Deep l) e)
+  prefix_arrives d n {x} {w} {ls} {i} {rest} o e (too_high {l} a) = too_deep a (climbing_deep (read_expression limit d) n i (Deep l) e)
 
   -- one turn of the loop
-  goes_on : (d n : ℕ) (left longer : Term) (i j k : Input) → HasRead d n left i j → n ≤ ahead j → suc (length k.rest) ≤ length j.rest → operation limit (expr limit d) left j ≡ Ok (longer, k) → HasRead d n longer i k
+  goes_on : (d n : ℕ) (left longer : Term) (i j k : Input) → HasRead d n left i j → n ≤ binding_ahead j → suc (length k.rest) ≤ length j.rest → operation limit (read_expression limit d) left j ≡ Ok (longer, k) → HasRead d n longer i k
   goes_on d n left longer i j k g le less o = turn g.turns g.enough g.reads
     where
-      turn : (f : ℕ) → length j.rest ≤ f → expr limit (suc d) n i ≡ climb limit (expr limit d) n f left j → HasRead d n longer i k
+      turn : (f : ℕ) → length j.rest ≤ f → read_expression limit (suc d) n i ≡ climb limit (read_expression limit d) n f left j → HasRead d n longer i k
       turn zero h e = absurd (omega arith)
-      turn (suc f) h e = record { turns = f; enough = omega arith; reads = e ∙ climb_on (expr limit d) n f left longer j k le o }
+      turn (suc f) h e = record { turns = f; enough = omega arith; reads = e ∙ climb_on (read_expression limit d) n f left longer j k le o }
 
-  goes_deep : (d n l : ℕ) (left : Term) (i j : Input) → HasRead d n left i j → n ≤ ahead j → 1 ≤ length j.rest → operation limit (expr limit d) left j ≡ Err (Deep l) → expr limit (suc d) n i ≡ Err (Deep l)
+  goes_deep : (d n l : ℕ) (left : Term) (i j : Input) → HasRead d n left i j → n ≤ binding_ahead j → 1 ≤ length j.rest → operation limit (read_expression limit d) left j ≡ Err (Deep l) → read_expression limit (suc d) n i ≡ Err (Deep l)
   goes_deep d n l left i j g le some o = turn g.turns g.enough g.reads
     where
-      turn : (f : ℕ) → length j.rest ≤ f → expr limit (suc d) n i ≡ climb limit (expr limit d) n f left j → expr limit (suc d) n i ≡ Err (Deep l)
+      turn : (f : ℕ) → length j.rest ≤ f → read_expression limit (suc d) n i ≡ climb limit (read_expression limit d) n f left j → read_expression limit (suc d) n i ≡ Err (Deep l)
       turn zero h e = absurd (omega arith)
-      turn (suc f) h e = e ∙ climb_deep (expr limit d) n f left j (Deep l) le o
+      turn (suc f) h e = e ∙ climb_deep (read_expression limit d) n f left j (Deep l) le o
 
   arrives_on : (d n : ℕ) {left longer : Term} {w x : ℕ} {ls : List Spelt} (rs : List Spelt) {i : Input} {rest : List Token} → Arrives d n left ls i (tokens rs ++ rest) w → n ≤ binds (infix_of (kind_ahead (tokens rs ++ rest)))
-      → suc (length rest) ≤ length (tokens rs ++ rest) → (o : Outcome Term) → operation limit (expr limit d) left (input (tokens rs ++ rest) w) ≡ o → Follows limit longer x rs rest o → Arrives d n longer (ls ++ rs) i rest x
+      → suc (length rest) ≤ length (tokens rs ++ rest) → (o : Outcome Term) → operation limit (read_expression limit d) left (input (tokens rs ++ rest) w) ≡ o → Follows limit longer x rs rest o → Arrives d n longer (ls ++ rs) i rest x
   arrives_on d n {left} {longer} {w} {x} {ls} rs {i} {rest} (arrives g) le less o e comes = arrives (goes_on d n left longer i (input (tokens rs ++ rest) w) (input rest x) g le less e)
   arrives_on d n {left} {longer} {w} {x} {ls} rs {i} {rest} (arrives g) le less o e (too_high {l} a) = too_deep (above_back ls a) (goes_deep d n l left i (input (tokens rs ++ rest) w) g le (omega (arith, less)) e)
   arrives_on d n rs (too_deep a f) le less o e h = too_deep (above_front rs a) f
 
   -- an expression of its own, before what ends one
-  own_reads : (x : Term) (v w : ℕ) (ls : List Spelt) (k : Option TokenKind) (d : ℕ) → Completes 1 x v ls w → v ≤ limit → limit < d + v → ends k ≡ true → Reading limit (expr limit d 1) v x w ls k
+  own_reads : (x : Term) (v w : ℕ) (ls : List Spelt) (k : Option TokenKind) (d : ℕ) → Completes 1 x v ls w → v ≤ limit → limit < d + v → ends k ≡ true → Reading limit (read_expression limit d 1) v x w ls k
   own_reads x v w ls k d c small deep h = reading (λ rest e.
       let halt : EndsLevel 1 (kind_ahead rest) = halts 1 (kind_ahead rest) (ap ends e ∙ h) in
       finish 1 x v ls w c d 1 rest small deep (omega arith) (omega arith) halt (omega (arith, halt.right (omega arith))))
 
   -- ---- operands
 
-  c_number : (n v : ℕ) (t : Token) (value : ℤ) → IsNumber value t → Completes n (plain.Num t.place value) v (at t v ∷ []) v
+  c_number : (n v : ℕ) (t : Token) (value : ℤ) → IsNumberToken value t → Completes n (plain.Num t.place value) v (at t v ∷ []) v
   unfolding prefix
   c_number n v t value h d n' rest deep pos le stops =
-      let k : start_of (Some t.kind) ≡ beg.Literal = rw h in
+      let k : term_start (Some t.kind) ≡ beg.Literal = rw h in
       let r = (map_to (λ n. plain.Num n.place n.value) (a_number limit)).complete v v (plain.Num t.place value) (at t v ∷ []) rest (mapped (part (number_is value h) tt)) in
-      let p : Follows limit (plain.Num t.place value) v (at t v ∷ []) rest (prefix limit (expr limit d) (input (t ∷ rest) v)) = rw k r in
+      let p : Follows limit (plain.Num t.place value) v (at t v ∷ []) rest (prefix limit (read_expression limit d) (input (t ∷ rest) v)) = rw k r in
       prefix_arrives d n' _ refl p
 
-  named_ok : (d v id : ℕ) (t : Token) (x : Term) (ls : List Spelt) (rest : List Token) → IsName id t
-      → Reading limit (λ i. reading.named_by limit (expr limit d) (after_of (kind_ahead i.rest)) (sp.name_at id t.place) i) v x v ls (kind_ahead rest)
-      → Follows limit x v (at t v ∷ ls) rest (prefix limit (expr limit d) (input (t ∷ (tokens ls ++ rest)) v))
+  named_ok : (d v id : ℕ) (t : Token) (x : Term) (ls : List Spelt) (rest : List Token) → IsNameToken id t
+      → Reading limit (λ i. reading.named_by limit (read_expression limit d) (after_of (kind_ahead i.rest)) (sp.name_at id t.place) i) v x v ls (kind_ahead rest)
+      → Follows limit x v (at t v ∷ ls) rest (prefix limit (read_expression limit d) (input (t ∷ (tokens ls ++ rest)) v))
   unfolding prefix
   named_ok d v id t x ls rest h r =
-      let k : start_of (Some t.kind) ≡ beg.Named = rw h in
-      let q = (a_named limit (expr limit d) (sound limit d)).complete v v x (at t v ∷ ls) rest (both (part (name_is id h) tt) r) in
+      let k : term_start (Some t.kind) ≡ beg.Named = rw h in
+      let q = (a_named limit (read_expression limit d) (sound limit d)).complete v v x (at t v ∷ ls) rest (both (part (name_is id h) tt) r) in
       rw k q
 
-  c_read : (n v id : ℕ) (t : Token) → IsName id t → Completes n (plain.Read t.place (name_at id t.place)) v (at t v ∷ []) v
+  c_read : (n v id : ℕ) (t : Token) → IsNameToken id t → Completes n (plain.Read t.place (name_at id t.place)) v (at t v ∷ []) v
   c_read n v id t h d n' rest deep pos le stops =
       prefix_arrives d n' _ refl (named_ok d v id t (plain.Read t.place (name_at id t.place)) [] rest h (reading (λ after e.
       let k : after_of (kind_ahead after) ≡ follow.Nothing = ap after_of e ∙ stops.alone in rw k comes)))
 
   abbrev IndexReads : Term → ℕ → List Spelt → Type 0
-  IndexReads x v ls = (d : ℕ) (k : Option TokenKind) → limit ≤ d + v → Reading limit (reading.indexed limit (expr limit d)) v x v ls k
+  IndexReads x v ls = (d : ℕ) (k : Option TokenKind) → limit ≤ d + v → Reading limit (reading.indexed limit (read_expression limit d)) v x v ls k
 
   abbrev PassReads : List Term → ℕ → List Spelt → Type 0
-  PassReads xs v ls = (d : ℕ) (k : Option TokenKind) → limit ≤ d + v → Reading limit (reading.passed limit (expr limit d)) v xs v ls k
+  PassReads xs v ls = (d : ℕ) (k : Option TokenKind) → limit ≤ d + v → Reading limit (reading.passed limit (read_expression limit d)) v xs v ls k
 
   abbrev BracketReads : Term → ℕ → List Spelt → Type 0
-  BracketReads x v ls = (d : ℕ) (k : Option TokenKind) → limit ≤ d + v → Reading limit (reading.bracketed limit (expr limit d)) v x v ls k
+  BracketReads x v ls = (d : ℕ) (k : Option TokenKind) → limit ≤ d + v → Reading limit (reading.bracketed limit (read_expression limit d)) v x v ls k
 
   abbrev ValueReads : Term → ℕ → List Spelt → Type 0
-  ValueReads x v ls = (d : ℕ) (k : Option TokenKind) → v ≤ limit → limit < d + v → ends k ≡ true → Reading limit (reading.value limit (expr limit d)) v x v ls k
+  ValueReads x v ls = (d : ℕ) (k : Option TokenKind) → v ≤ limit → limit < d + v → ends k ≡ true → Reading limit (reading.value limit (read_expression limit d)) v x v ls k
 
   abbrev ArgumentsRead : List Term → ℕ → List Spelt → Type 0
   ArgumentsRead xs v ls = (d : ℕ) (k : Option TokenKind) → v ≤ limit → limit < d + v → ends k ≡ true → is_fixed fixed.Comma k ≡ false
-      → Listed (Full (Reading limit (reading.value limit (expr limit d)))) v xs v ls k
+      → Listed (Full (Reading limit (reading.value limit (read_expression limit d)))) v xs v ls k
 
   c_indexes : (x : Term) (v w : ℕ) (left right : Token) (ls : List Spelt) → IsMark mark.LeftSquare left → Completes 1 x (v + 1) ls w → IsMark mark.RightSquare right
       → IndexReads x v (at left (v + 1) ∷ (ls ++ (at right v ∷ [])))
   c_indexes x v w left right ls hl c hr d k deep = reading (λ rest e.
       let e1 : ends (Some right.kind) ≡ true = rw hr in
-      (an_indexed limit (expr limit d) (sound limit d)).complete v v x (at left (v + 1) ∷ (ls ++ (at right v ∷ []))) rest
+      (an_indexed limit (read_expression limit d) (sound limit d)).complete v v x (at left (v + 1) ∷ (ls ++ (at right v ∷ []))) rest
       (encloses right hl (λ small. own_reads x (v + 1) w ls (Some right.kind) d c small (omega arith) e1) hr))
 
   c_brackets : (x : Term) (v w : ℕ) (left right : Token) (ls : List Spelt) → IsMark mark.LeftRound left → Completes 1 x (v + 1) ls w → IsMark mark.RightRound right
       → BracketReads x v (at left (v + 1) ∷ (ls ++ (at right v ∷ [])))
   c_brackets x v w left right ls hl c hr d k deep = reading (λ rest e.
       let e1 : ends (Some right.kind) ≡ true = rw hr in
-      (a_bracketed limit (expr limit d) (sound limit d)).complete v v x (at left (v + 1) ∷ (ls ++ (at right v ∷ []))) rest
+      (a_bracketed limit (read_expression limit d) (sound limit d)).complete v v x (at left (v + 1) ∷ (ls ++ (at right v ∷ []))) rest
       (encloses right hl (λ small. own_reads x (v + 1) w ls (Some right.kind) d c small (omega arith) e1) hr))
 
   c_none : (v : ℕ) (left right : Token) → IsMark mark.LeftRound left → IsMark mark.RightRound right → PassReads [] v (at left (v + 1) ∷ at right v ∷ [])
   c_none v left right hl hr d k deep = reading (λ rest e.
       let e1 : is_fixed fixed.RightRound (Some right.kind) ≡ true = is_so fixed.RightRound right hr in
-      (a_passed limit (expr limit d) (sound limit d)).complete v v [] (at left (v + 1) ∷ at right v ∷ []) rest (encloses right hl (λ small. on e1 done) hr))
+      (a_passed limit (read_expression limit d) (sound limit d)).complete v v [] (at left (v + 1) ∷ at right v ∷ []) rest (encloses right hl (λ small. on e1 done) hr))
 
   c_passes : (xs : List Term) (v : ℕ) (left right : Token) (ls : List Spelt) → IsMark mark.LeftRound left → ArgumentsRead xs (v + 1) ls → Begun ls → IsMark mark.RightRound right
       → PassReads xs v (at left (v + 1) ∷ (ls ++ (at right v ∷ [])))
   c_passes xs v left right ls hl c b hr d k deep = reading (λ rest e.
       let e1 : ends (Some right.kind) ≡ true = rw hr in
       let e2 : is_fixed fixed.Comma (Some right.kind) ≡ false = rw hr in
-      (a_passed limit (expr limit d) (sound limit d)).complete v v xs (at left (v + 1) ∷ (ls ++ (at right v ∷ []))) rest
-      (encloses right hl (λ small. off (begun_round ls (Some right.kind) b) (reads_by (full_commas (value_by limit (expr limit d) (sound limit d))) (c d (Some right.kind) small (omega arith) e1 e2))) hr))
+      (a_passed limit (read_expression limit d) (sound limit d)).complete v v xs (at left (v + 1) ∷ (ls ++ (at right v ∷ []))) rest
+      (encloses right hl (λ small. off (begun_round ls (Some right.kind) b) (reads_by (full_commas (value_by limit (read_expression limit d) (sound limit d))) (c d (Some right.kind) small (omega arith) e1 e2))) hr))
 
   c_value : (x : Term) (v w : ℕ) (ls : List Spelt) → Completes 1 x v ls w → ValueReads x v ls
-  c_value x v w ls c d k small deep h = reads_by (a_value limit (expr limit d) (sound limit d)) (inside (own_reads x v w ls k d c small deep h))
+  c_value x v w ls c d k small deep h = reads_by (a_value limit (read_expression limit d) (sound limit d)) (inside (own_reads x v w ls k d c small deep h))
 
-  c_element : (n v id : ℕ) (t : Token) (index : Term) (ls : List Spelt) → IsName id t → IndexReads index v ls → ((k : Option TokenKind) → first ls k ≡ Some (kind.Mark mark.LeftSquare))
+  c_element : (n v id : ℕ) (t : Token) (index : Term) (ls : List Spelt) → IsNameToken id t → IndexReads index v ls → ((k : Option TokenKind) → first ls k ≡ Some (kind.Mark mark.LeftSquare))
       → Completes n (plain.Element t.place (name_at id t.place) index) v (at t v ∷ ls) v
   c_element n v id t index ls h c f d n' rest deep pos le stops =
       let whole = plain.Element t.place (name_at id t.place) index in
       prefix_arrives d n' _ refl (named_ok d v id t whole ls rest h (reading (λ after e.
       let k : after_of (kind_ahead (tokens ls ++ after)) ≡ follow.Index = ap after_of (first-is ls after ∙ f (kind_ahead after)) in
-      let r = (map_to (λ x. plain.Element t.place (name_at id t.place) x) (indexed_by limit (expr limit d) (sound limit d))).complete v v whole ls after (mapped (c d (kind_ahead after) deep)) in
+      let r = (map_to (λ x. plain.Element t.place (name_at id t.place) x) (indexed_by limit (read_expression limit d) (sound limit d))).complete v v whole ls after (mapped (c d (kind_ahead after) deep)) in
       rw k r)))
 
-  c_call : (n v id : ℕ) (t : Token) (args : List Term) (ls : List Spelt) → IsName id t → PassReads args v ls → ((k : Option TokenKind) → first ls k ≡ Some (kind.Mark mark.LeftRound))
+  c_call : (n v id : ℕ) (t : Token) (args : List Term) (ls : List Spelt) → IsNameToken id t → PassReads args v ls → ((k : Option TokenKind) → first ls k ≡ Some (kind.Mark mark.LeftRound))
       → Completes n (plain.Call t.place (name_at id t.place) (listed args)) v (at t v ∷ ls) v
   c_call n v id t args ls h c f d n' rest deep pos le stops =
       let whole = plain.Call t.place (name_at id t.place) (listed args) in
       prefix_arrives d n' _ refl (named_ok d v id t whole ls rest h (reading (λ after e.
       let k : after_of (kind_ahead (tokens ls ++ after)) ≡ follow.Arguments = ap after_of (first-is ls after ∙ f (kind_ahead after)) in
-      let r = (map_to (λ xs. plain.Call t.place (name_at id t.place) (listed xs)) (passed_by limit (expr limit d) (sound limit d))).complete v v whole ls after (mapped (c d (kind_ahead after) deep)) in
+      let r = (map_to (λ xs. plain.Call t.place (name_at id t.place) (listed xs)) (passed_by limit (read_expression limit d) (sound limit d))).complete v v whole ls after (mapped (c d (kind_ahead after) deep)) in
       rw k r)))
 
   c_bracketed : (n v : ℕ) (x : Term) (ls : List Spelt) → BracketReads x v ls → ((k : Option TokenKind) → first ls k ≡ Some (kind.Mark mark.LeftRound)) → Completes n x v ls v
   unfolding prefix
   c_bracketed n v x ls c f d n' rest deep pos le stops =
-      let k : start_of (kind_ahead (tokens ls ++ rest)) ≡ beg.Round = ap start_of (first-is ls rest ∙ f (kind_ahead rest)) in
-      let r : Follows limit x v ls rest (reading.bracketed limit (expr limit d) (input (tokens ls ++ rest) v)) = read_at (c d (kind_ahead rest) deep) rest refl in
-      let p : Follows limit x v ls rest (prefix limit (expr limit d) (input (tokens ls ++ rest) v)) = rw k r in
+      let k : term_start (kind_ahead (tokens ls ++ rest)) ≡ beg.Round = ap term_start (first-is ls rest ∙ f (kind_ahead rest)) in
+      let r : Follows limit x v ls rest (reading.bracketed limit (read_expression limit d) (input (tokens ls ++ rest) v)) = read_at (c d (kind_ahead rest) deep) rest refl in
+      let p : Follows limit x v ls rest (prefix limit (read_expression limit d) (input (tokens ls ++ rest) v)) = rw k r in
       prefix_arrives d n' _ refl p
 
   c_unary : (n v w : ℕ) (t : Token) (x : Term) (ls : List Spelt) (op : Unary) → n ≤ 12 → IsMark (sign_of op) t → Completes 12 x (v + 1) ls w → Completes n (plain.Un t.place op x) v (at t (v + 1) ∷ ls) w
   c_unary n v w t x ls op top ht c d n' rest deep pos le stops =
       let low = binds_small (infix_of (kind_ahead rest)) in
       let halt : EndsLevel 12 (kind_ahead rest) = record { tight = omega arith; right = λ h. absurd (omega arith); alone = stops.alone } in
-      prefix_arrives d n' _ refl (sign_follows (expr limit d) t v w op x ls rest ht (λ small.
+      prefix_arrives d n' _ refl (sign_follows (read_expression limit d) t v w op x ls rest ht (λ small.
       finish 12 x (v + 1) ls w c d 12 rest small (omega arith) (omega arith) (omega arith) halt low))
 
   -- ---- operators
@@ -369,7 +369,7 @@ module _ (limit : ℕ) where
   shorter ls rest = omega (arith, longer ls rest)
 
   c_binary : (n v w x : ℕ) (t : Token) (a b : Term) (ls rs : List Spelt) (op : Operator) → n ≤ level_of op → Completes (level_of op) a v ls w → IsMark (mark_of op) t → Completes (level_of op + 1) b (w + 1) rs x → v ≤ w
-      → Completes n (joined op t.place a b) v (ls ++ (at t (w + 1) ∷ rs)) x
+      → Completes n (operator_term op t.place a b) v (ls ++ (at t (w + 1) ∷ rs)) x
   c_binary n v w x t a b ls rs op top ca ht cb grows d n' rest deep pos le stops =
       let tail = tokens rs ++ rest in
       let k : infix_of (Some t.kind) ≡ inf.Joins op = rw ht (mark_infix op) in
@@ -379,10 +379,10 @@ module _ (limit : ℕ) where
       let halt : EndsLevel (level_of op) (Some t.kind) = record { tight = omega arith; right = λ h. absurd (omega (arith, two.0)); alone = q } in
       let behind : EndsLevel (level_of op + 1) (kind_ahead rest) = record { tight = omega (arith, stops.tight); right = λ h. absurd (omega (arith, two.0)); alone = stops.alone } in
       let g : Arrives d n' a ls (input (tokens ls ++ (t ∷ tail)) v) (t ∷ tail) w = ca d n' (t ∷ tail) deep pos (omega arith) halt in
-      let o : Follows limit (joined op t.place a b) x (at t (w + 1) ∷ rs) rest (operation limit (expr limit d) a (input (t ∷ tail) w)) =
-      join_follows (expr limit d) t w x op a b rs rest ht (λ small.
+      let o : Follows limit (operator_term op t.place a b) x (at t (w + 1) ∷ rs) rest (operation limit (read_expression limit d) a (input (t ∷ tail) w)) =
+      join_follows (read_expression limit d) t w x op a b rs rest ht (λ small.
       finish (level_of op + 1) b (w + 1) rs x cb d (level_of op + 1) rest small (omega arith) (omega arith) (omega arith) behind (omega (arith, stops.tight))) in
-      let l : Arrives d n' (joined op t.place a b) (ls ++ (at t (w + 1) ∷ rs)) (input (tokens ls ++ (t ∷ tail)) v) rest x =
+      let l : Arrives d n' (operator_term op t.place a b) (ls ++ (at t (w + 1) ∷ rs)) (input (tokens ls ++ (t ∷ tail)) v) rest x =
       arrives_on d n' (at t (w + 1) ∷ rs) g (omega arith) (shorter rs rest) _ refl o in
       rw (tokens_append ls (at t (w + 1) ∷ rs) rest) l
 
@@ -399,8 +399,8 @@ module _ (limit : ℕ) where
       let none : binds (infix_of (kind_ahead rest)) ≡ 0 = stops.right (omega arith) in
       let behind : EndsLevel 1 (kind_ahead rest) = record { tight = omega arith; right = λ _. none; alone = stops.alone } in
       let g : Arrives d n' test ls (input (tokens ls ++ (t ∷ tail)) v) (t ∷ tail) w = ct d n' (t ∷ tail) deep pos (omega arith) halt in
-      let o : Follows limit (plain.Choose t.place test a b) y (at t (w + 1) ∷ (ms ++ (at colon x ∷ rs))) rest (operation limit (expr limit d) test (input (t ∷ tail) w)) =
-      choose_follows (expr limit d) t colon w x y test a b ms rs rest ht hc
+      let o : Follows limit (plain.Choose t.place test a b) y (at t (w + 1) ∷ (ms ++ (at colon x ∷ rs))) rest (operation limit (read_expression limit d) test (input (t ∷ tail) w)) =
+      choose_follows (read_expression limit d) t colon w x y test a b ms rs rest ht hc
       (λ small. read_at (own_reads a (w + 1) x ms (Some colon.kind) d ca small (omega arith) e1) (colon ∷ last) refl)
       (λ small e. let m = sound limit d 1 (omega arith) (omega arith) (input (tokens ms ++ (colon ∷ last)) (w + 1)) (input (colon ∷ last) x) a small e in
       finish 1 b x rs y cb d 1 rest m.small (omega arith) (omega arith) (omega arith) behind (omega arith)) in
@@ -435,13 +435,13 @@ module _ (limit : ℕ) where
     pub complete_brackets : {v : ℕ} {x : Term} {ls : List Spelt} → Brackets x v ls → BracketReads x v ls
     complete_brackets (brackets {v} {left} right {inner = x} {ls} hl (whole {w = w} s) hr) = c_brackets x v w left right ls hl (complete s) hr
 
-    pub complete_indexes : {v : ℕ} {x : Term} {ls : List Spelt} → Indexes x v ls → IndexReads x v ls
+    pub complete_indexes : {v : ℕ} {x : Term} {ls : List Spelt} → SpellsIndex x v ls → IndexReads x v ls
     complete_indexes (indexes {v} {left} right {index = x} {ls} hl (whole {w = w} s) hr) = c_indexes x v w left right ls hl (complete s) hr
 
-    pub complete_passes : {v : ℕ} {xs : List Term} {ls : List Spelt} → Passes xs v ls → PassReads xs v ls
+    pub complete_passes : {v : ℕ} {xs : List Term} {ls : List Spelt} → SpellsArguments xs v ls → PassReads xs v ls
     complete_passes (passes_none {v} {left} {right} hl hr) = c_none v left right hl hr
     complete_passes (passes {v} {left} right {args = xs} {ls} hl s hr) = c_passes xs v left right ls hl (complete_arguments s) (begun_arguments s) hr
 
-    pub complete_arguments : {v : ℕ} {xs : List Term} {ls : List Spelt} → Arguments xs v ls → ArgumentsRead xs v ls
+    pub complete_arguments : {v : ℕ} {xs : List Term} {ls : List Spelt} → SpellsExpressions xs v ls → ArgumentsRead xs v ls
     complete_arguments (one {v} {arg = x} {ls} s) = c_one x v ls (complete_whole s) (begun_whole s)
     complete_arguments (more {v} {arg = x} {args = xs} comma {ls} {rs} s h r) = c_more x xs v comma ls rs (complete_whole s) (begun_whole s) h (complete_arguments r)

@@ -10,7 +10,7 @@ use Rattle.forec_tree.specs.declared.operators.Operator.{Operator}
 use Rattle.forec_tree.specs.declared.tree.Name.{Name}
 use Rattle.forec_tree.specs.Terms as plain
 use Rattle.forec_tree.specs.Terms.{Term}
-use Rattle.forec_tree.specs.Spelling.{Spelt, at, IsMark, mark_of, sign_of, level_of, joined, listed, Spells, Whole, Brackets, Indexes, Passes, Arguments, whole, brackets, indexes, passes_none, passes, one}
+use Rattle.forec_tree.specs.Spelling.{Spelt, at, IsMark, mark_of, sign_of, level_of, operator_term, listed, Spells, Whole, Brackets, SpellsIndex, SpellsArguments, SpellsExpressions, whole, brackets, indexes, passes_none, passes, one}
 use Rattle.forec_tree.specs.Spelling.{more as more'}
 use Rattle.forec_tree.specs.Spelling as sp
 use Rattle.expr_parser.specs.declared.fault.Fault.TheVariants.{Syntax}
@@ -22,9 +22,9 @@ use Rattle.expr_parser.specs.declared.meaning.Infix.TheVariants as inf
 use Rattle.expr_parser.specs.declared.meaning.Behind.{Behind}
 use Rattle.expr_parser.specs.declared.meaning.Behind.TheVariants as follow
 use Rattle.expr_parser.specs.Input.{Input, Parser, and_then, kind_ahead, raise}
-use Rattle.expr_parser.specs.Meaning.{start_of, infix_of, after_of, binds}
+use Rattle.expr_parser.specs.Meaning.{term_start, infix_of, after_of, binds}
 use Rattle.expr_parser.specs.Reading as reading
-use Rattle.expr_parser.specs.Reading.{infix_at, ahead, number, expr, climb, prefix, prefix_by, named_by, operation, operation_by}
+use Rattle.expr_parser.specs.Reading.{infix_at, binding_ahead, read_number, read_expression, climb, prefix, prefix_by, named_by, operation, operation_by}
 use Rattle.expr_parser.proofs.Spans.{first, step, ok_of, ok_pair, Raised, raised}
 use Rattle.expr_parser.proofs.Exact.{Lang, Read, Exact, Bind, both, Map, mapped, Scoped, inside, Done, done, If, on, off, Part, part, Reading, Any, bind, map_to, scope, convert, either, done_at, by_reading, then_read, read_as}
 use Rattle.expr_parser.proofs.Leaves.{Tok, tok, NameIs, name_is, NumberIs, number_is, token, a_name, a_number, Enclosed, EnclosedBy, between, enclosing, l_sound, Listed, end_of_list, next_of_list}
@@ -44,14 +44,14 @@ pub data Opens : ℕ → Token → ℕ → List Spelt → Option TokenKind → T
 
 -- what may stand after a name
 pub data Behind_name (n : Name) : ℕ → Term → ℕ → List Spelt → Option TokenKind → Type 0 where
-  by_index : {v : ℕ} {index : Term} {ls : List Spelt} {k : Option TokenKind} → Indexes index v ls → Behind_name n v (plain.Element n.place n index) v ls k
-  by_args : {v : ℕ} {args : List Term} {ls : List Spelt} {k : Option TokenKind} → Passes args v ls → Behind_name n v (plain.Call n.place n (listed args)) v ls k
+  by_index : {v : ℕ} {index : Term} {ls : List Spelt} {k : Option TokenKind} → SpellsIndex index v ls → Behind_name n v (plain.Element n.place n index) v ls k
+  by_args : {v : ℕ} {args : List Term} {ls : List Spelt} {k : Option TokenKind} → SpellsArguments args v ls → Behind_name n v (plain.Call n.place n (listed args)) v ls k
   by_nothing : {v : ℕ} {k : Option TokenKind} → Behind_name n v (plain.Read n.place n) v [] k
 
 -- an operator and its second operand, or `?` and two
 pub data Operates (left : Term) : ℕ → Term → ℕ → List Spelt → Option TokenKind → Type 0 where
   joins_to : {v w : ℕ} {t : Token} {right : Term} {rs : List Spelt} {k : Option TokenKind} (op : Operator) → IsMark (mark_of op) t → ParsedAt (level_of op + 1) (v + 1) right w rs k
-      → Operates left v (joined op t.place left right) w (at t (v + 1) ∷ rs) k
+      → Operates left v (operator_term op t.place left right) w (at t (v + 1) ∷ rs) k
   chooses : {v w x : ℕ} {t : Token} (colon : Token) {a b : Term} {ms rs : List Spelt} {k : Option TokenKind} → IsMark mark.Question t → Spells 1 a (v + 1) ms w → IsMark mark.Colon colon → ParsedAt 1 w b x rs k
       → Operates left v (plain.Choose t.place left a b) x (at t (v + 1) ∷ (ms ++ (at colon w ∷ rs))) k
 
@@ -94,10 +94,10 @@ join (both a b) = join_with b a
 
 -- ---- what each rule finds, as an expression
 
-pub element_of : {n : Name} {v w : ℕ} {y : Term} {ls : List Spelt} {k : Option TokenKind} → Map (λ index. plain.Element n.place n index) (Part Any Indexes) v y w ls k → Behind_name n v y w ls k
+pub element_of : {n : Name} {v w : ℕ} {y : Term} {ls : List Spelt} {k : Option TokenKind} → Map (λ index. plain.Element n.place n index) (Part Any SpellsIndex) v y w ls k → Behind_name n v y w ls k
 element_of (mapped (part s c)) = by_index s
 
-pub call_of : {n : Name} {v w : ℕ} {y : Term} {ls : List Spelt} {k : Option TokenKind} → Map (λ args. plain.Call n.place n (listed args)) (Part Any Passes) v y w ls k → Behind_name n v y w ls k
+pub call_of : {n : Name} {v w : ℕ} {y : Term} {ls : List Spelt} {k : Option TokenKind} → Map (λ args. plain.Call n.place n (listed args)) (Part Any SpellsArguments) v y w ls k → Behind_name n v y w ls k
 call_of (mapped (part s c)) = by_args s
 
 pub named_of : {v w : ℕ} {x : Term} {ls : List Spelt} {k : Option TokenKind} → Bind (Part Any NameIs) Behind_name v x w ls k → At 12 v x w ls k
@@ -114,11 +114,11 @@ signed_of op (both (opens {t = t}) (mapped (found s low))) e = let is : IsMark (
 pub round_of : {v w : ℕ} {y : Term} {ls : List Spelt} {k : Option TokenKind} → Part Any Brackets v y w ls k → At 12 v y w ls k
 round_of (part s c) = at_level (sp.bracketed s)
 
-join_map : {v w : ℕ} {t : Token} {left y : Term} {ls : List Spelt} {k : Option TokenKind} (op : Operator) → Map (λ z. joined op t.place left z) (ParsedAt (level_of op + 1)) (v + 1) y w ls k
+join_map : {v w : ℕ} {t : Token} {left y : Term} {ls : List Spelt} {k : Option TokenKind} (op : Operator) → Map (λ z. operator_term op t.place left z) (ParsedAt (level_of op + 1)) (v + 1) y w ls k
     → Some t.kind ≡ Some (kind.Mark (mark_of op)) → Operates left v y w (at t (v + 1) ∷ ls) k
 join_map {v} {t = t} op (mapped s) e = let is : IsMark (mark_of op) t = cc in joins_to op is s
 
-pub joins_of : {v w : ℕ} {left y : Term} {ls : List Spelt} {k : Option TokenKind} (op : Operator) → Bind Opens (λ t. Map (λ z. joined op t.place left z) (ParsedAt (level_of op + 1))) v y w ls k
+pub joins_of : {v w : ℕ} {left y : Term} {ls : List Spelt} {k : Option TokenKind} (op : Operator) → Bind Opens (λ t. Map (λ z. operator_term op t.place left z) (ParsedAt (level_of op + 1))) v y w ls k
     → first ls k ≡ Some (kind.Mark (mark_of op)) → Operates left v y w ls k
 joins_of op (both (opens {t = t}) m) e = join_map {t = t} op m e
 
@@ -166,16 +166,16 @@ module _ (limit : ℕ) where
     unfolding reading.bracketed
     a_bracketed = convert brackets_of (λ v w x ls k q. q) (enclosing fixed.LeftRound fixed.RightRound (λ _ y. y) own)
 
-    pub indexes_of : (v w : ℕ) (x : Term) (ls : List Spelt) (k : Option TokenKind) → Enclosed fixed.LeftSquare fixed.RightSquare (λ _ y. y) (ParsedAt 1) v x w ls k → Part Any Indexes v x w ls k
+    pub indexes_of : (v w : ℕ) (x : Term) (ls : List Spelt) (k : Option TokenKind) → Enclosed fixed.LeftSquare fixed.RightSquare (λ _ y. y) (ParsedAt 1) v x w ls k → Part Any SpellsIndex v x w ls k
     indexes_of v w x ls k (between right hl (found s low) hr) = part (indexes right hl (whole s) hr) tt
 
-    pub an_indexed : Exact limit (reading.indexed limit ex) (Part Any Indexes) (EnclosedBy limit fixed.LeftSquare fixed.RightSquare (λ _ y. y) (Reading limit (ex 1)))
+    pub an_indexed : Exact limit (reading.indexed limit ex) (Part Any SpellsIndex) (EnclosedBy limit fixed.LeftSquare fixed.RightSquare (λ _ y. y) (Reading limit (ex 1)))
     unfolding reading.indexed
     an_indexed = convert indexes_of (λ v w x ls k q. q) (enclosing fixed.LeftSquare fixed.RightSquare (λ _ y. y) own)
 
     -- ---- arguments
 
-    pub arguments_in : {v w : ℕ} {xs : List Term} {ls : List Spelt} {k : Option TokenKind} → Listed (Part Any Whole) v xs w ls k → Arguments xs v ls
+    pub arguments_in : {v w : ℕ} {xs : List Term} {ls : List Spelt} {k : Option TokenKind} → Listed (Part Any Whole) v xs w ls k → SpellsExpressions xs v ls
     arguments_in (end_of_list (part s c) e) = one s
     arguments_in (next_of_list comma (part s c) h more) = more' comma s h (arguments_in more)
 
@@ -186,13 +186,13 @@ module _ (limit : ℕ) where
     abbrev pub Given : Lang (List Term) → Lang (List Term)
     Given V = If fixed.RightRound (Done []) V
 
-    passes_of : (v w : ℕ) (xs : List Term) (ls : List Spelt) (k : Option TokenKind) → Enclosed fixed.LeftRound fixed.RightRound (λ _ y. y) (Given (Listed (Part Any Whole))) v xs w ls k → Part Any Passes v xs w ls k
+    passes_of : (v w : ℕ) (xs : List Term) (ls : List Spelt) (k : Option TokenKind) → Enclosed fixed.LeftRound fixed.RightRound (λ _ y. y) (Given (Listed (Part Any Whole))) v xs w ls k → Part Any SpellsArguments v xs w ls k
     passes_of v w xs ls k (between right hl (on e done) hr) = part (passes_none hl hr) tt
     passes_of v w xs ls k (between right hl (off e s) hr) = part (passes right hl (arguments_in s) hr) tt
 
-    pub a_passed : Exact limit (reading.passed limit ex) (Part Any Passes)
+    pub a_passed : Exact limit (reading.passed limit ex) (Part Any SpellsArguments)
         (EnclosedBy limit fixed.LeftRound fixed.RightRound (λ _ y. y) (Given (Reading limit (reading.separated (reading.value limit ex)))))
-    unfolding reading.passed reading.arguments
+    unfolding reading.passed reading.read_arguments
     a_passed = convert passes_of (λ v w x ls k q. q) (enclosing fixed.LeftRound fixed.RightRound (λ _ y. y) (either fixed.RightRound (done_at []) some_values))
 
     -- ---- operands
@@ -208,10 +208,10 @@ module _ (limit : ℕ) where
         of done = by_nothing
 
     -- the same, by what each finds
-    pub indexed_by : Exact limit (reading.indexed limit ex) (Part Any Indexes) (Reading limit (reading.indexed limit ex))
+    pub indexed_by : Exact limit (reading.indexed limit ex) (Part Any SpellsIndex) (Reading limit (reading.indexed limit ex))
     indexed_by = by_reading an_indexed.sound
 
-    pub passed_by : Exact limit (reading.passed limit ex) (Part Any Passes) (Reading limit (reading.passed limit ex))
+    pub passed_by : Exact limit (reading.passed limit ex) (Part Any SpellsArguments) (Reading limit (reading.passed limit ex))
     passed_by = by_reading a_passed.sound
 
     pub value_by : Exact limit (reading.value limit ex) (Part Any Whole) (Reading limit (reading.value limit ex))
@@ -220,8 +220,8 @@ module _ (limit : ℕ) where
     pub bracketed_by : Exact limit (reading.bracketed limit ex) (Part Any Brackets) (Reading limit (reading.bracketed limit ex))
     bracketed_by = by_reading a_bracketed.sound
 
-    pub a_named : Exact limit (reading.named limit ex) (At 12) (Bind (Part Any NameIs) (λ n. Reading limit (λ i. named_by limit ex (after_of (kind_ahead i.rest)) n i)))
-    unfolding reading.named
+    pub a_named : Exact limit (reading.named_term limit ex) (At 12) (Bind (Part Any NameIs) (λ n. Reading limit (λ i. named_by limit ex (after_of (kind_ahead i.rest)) n i)))
+    unfolding reading.named_term
     a_named = convert (λ v w x ls k q. named_of q) (λ v w x ls k q. q) (bind (a_name limit) (λ n. by_reading (λ i j x small h. behind_by n (after_of (kind_ahead i.rest)) i j x small h)))
 
     prefix_of : (s : Start) (i j : Input) (x : Term) → Begins (kind_ahead i.rest) s → i.level ≤ limit → prefix_by limit ex s i ≡ Ok (x, j) → Read limit (At 12) x i j
@@ -234,15 +234,15 @@ module _ (limit : ℕ) where
 
     pub s_prefix : (i j : Input) (x : Term) → i.level ≤ limit → prefix limit ex i ≡ Ok (x, j) → Read limit (At 12) x i j
     unfolding prefix
-    s_prefix i j x small h = prefix_of (start_of (kind_ahead i.rest)) i j x (begins (kind_ahead i.rest)) small h
+    s_prefix i j x small h = prefix_of (term_start (kind_ahead i.rest)) i j x (begins (kind_ahead i.rest)) small h
 
     -- ---- operators
 
     operates_of : (s : Infix) (left : Term) (i j : Input) (x : Term) → Joins (kind_ahead i.rest) s → i.level ≤ limit → operation_by limit ex left s i ≡ Ok (x, j) → Read limit (Operates left) x i j
-    unfolding reading.chosen
+    unfolding reading.choose_term
     operates_of (inf.Joins op) left i j x b small h =
         let bounds = level_bounds op in
-        read_as ((bind a_raise (λ t. map_to (λ y. joined op t.place left y) (an_expr (level_of op + 1) (omega arith) (omega (arith, bounds.1))))).sound i j x small h) (λ ls e q. joins_of op q (e ∙ b))
+        read_as ((bind a_raise (λ t. map_to (λ y. operator_term op t.place left y) (an_expr (level_of op + 1) (omega arith) (omega (arith, bounds.1))))).sound i j x small h) (λ ls e q. joins_of op q (e ∙ b))
     operates_of inf.Question left i j x b small h =
         read_as ((bind a_raise (λ t. bind own (λ a. bind (token limit fixed.Colon) (λ _. map_to (λ c. plain.Choose t.place left a c) own)))).sound i j x small h) (λ ls e q. chooses_of q (e ∙ b))
     operates_of inf.Nothing left i j x b small h = absurd (cc)
@@ -253,13 +253,13 @@ module _ (limit : ℕ) where
 
     -- ---- the loop
 
-    pub goes_of : (n : ℕ) (left : Term) (i j : Input) (x : Term) → i.level ≤ limit → n ≤ ahead i → operation limit ex left i ≡ Ok (x, j) → Read limit (OperatesAt n left) x i j
-    goes_of n left i j x small high h = read_as (s_operation left i j x small h) (λ ls e q. goes_on q (let f : binds (infix_of (first ls (kind_ahead j.rest))) ≡ ahead i = ap (λ k. binds (infix_of k)) e in omega arith))
+    pub goes_of : (n : ℕ) (left : Term) (i j : Input) (x : Term) → i.level ≤ limit → n ≤ binding_ahead i → operation limit ex left i ≡ Ok (x, j) → Read limit (OperatesAt n left) x i j
+    goes_of n left i j x small high h = read_as (s_operation left i j x small h) (λ ls e q. goes_on q (let f : binds (infix_of (first ls (kind_ahead j.rest))) ≡ binding_ahead i = ap (λ k. binds (infix_of k)) e in omega arith))
 
     ClimbsTo : ℕ → Type 0
     ClimbsTo turns = (n : ℕ) (x y : Term) (i j k : Input) → 1 ≤ n → Read limit (SoFar n) x i j → climb limit ex n turns x j ≡ Ok (y, k) → Read limit (ParsedAt n) y i k
 
-    s_stop : (n : ℕ) (x y : Term) (i j k : Input) → Read limit (SoFar n) x i j → ahead j < n → x ≡ y → j ≡ k → Read limit (ParsedAt n) y i k
+    s_stop : (n : ℕ) (x y : Term) (i j k : Input) → Read limit (SoFar n) x i j → binding_ahead j < n → x ≡ y → j ≡ k → Read limit (ParsedAt n) y i k
     s_stop n x y i j k g low e f =
         let R : Input → Type 0 = λ z. Read limit (ParsedAt n) x i z in
         let S : Term → Type 0 = λ z. Read limit (ParsedAt n) z i k in
@@ -270,15 +270,15 @@ module _ (limit : ℕ) where
 
     s_climb_turn : (turns : ℕ) → ClimbsTo turns → ClimbsTo (suc turns)
     unfolding climb ClimbsTo
-    s_climb_turn turns ih n x y i j k pos g h = by_test (nat_lt (ahead j) n) refl h
+    s_climb_turn turns ih n x y i j k pos g h = by_test (nat_lt (binding_ahead j) n) refl h
       where
-        by_test : (b : Bool) → nat_lt (ahead j) n ≡ b → cond b (ok_of x j) (and_then (operation limit ex x j) (climb limit ex n turns)) ≡ Ok (y, k) → Read limit (ParsedAt n) y i k
+        by_test : (b : Bool) → nat_lt (binding_ahead j) n ≡ b → cond b (ok_of x j) (and_then (operation limit ex x j) (climb limit ex n turns)) ≡ Ok (y, k) → Read limit (ParsedAt n) y i k
         by_test true c h =
             let p = ok_pair x y j k h in
-            let low : ahead j < n = grind arith in
+            let low : binding_ahead j < n = grind arith in
             s_stop n x y i j k g low p.0 p.1
         by_test false c h =
-            let high : n ≤ ahead j = grind arith in
+            let high : n ≤ binding_ahead j = grind arith in
             let s = step (operation limit ex x j) (climb limit ex n turns) (y, k) h in
             let o = goes_of n x j s.state s.value g.small high s.was in
             let both' : Read limit (Bind (SoFar n) (OperatesAt n)) s.value i s.state = then_read g o in
@@ -286,10 +286,10 @@ module _ (limit : ℕ) where
 
     s_climb_end : ClimbsTo zero
     unfolding climb ClimbsTo
-    s_climb_end n x y i j k pos g h = by_test (nat_lt (ahead j) n) refl h
+    s_climb_end n x y i j k pos g h = by_test (nat_lt (binding_ahead j) n) refl h
       where
-        by_test : (b : Bool) → nat_lt (ahead j) n ≡ b → cond b (ok_of x j) (Err (Syntax (length j.rest))) ≡ Ok (y, k) → Read limit (ParsedAt n) y i k
-        by_test true c h = let p = ok_pair x y j k h in let low : ahead j < n = grind arith in s_stop n x y i j k g low p.0 p.1
+        by_test : (b : Bool) → nat_lt (binding_ahead j) n ≡ b → cond b (ok_of x j) (Err (Syntax (length j.rest))) ≡ Ok (y, k) → Read limit (ParsedAt n) y i k
+        by_test true c h = let p = ok_pair x y j k h in let low : binding_ahead j < n = grind arith in s_stop n x y i j k g low p.0 p.1
         by_test false c h = absurd (cc)
 
     s_climb : (turns : ℕ) → ClimbsTo turns
@@ -303,7 +303,7 @@ module _ (limit : ℕ) where
         s_climb (length s.state.rest) n s.value x i s.state j pos (read_as (s_prefix i s.state s.value small s.was) (λ ls e q. so_far_of n top q)) s.goes
 
   -- What is read is spelled so, and what stands after it does not go on with it.
-  pub sound : (d : ℕ) → Sounds (expr limit d)
-  unfolding expr
+  pub sound : (d : ℕ) → Sounds (read_expression limit d)
+  unfolding read_expression
   sound zero n pos top i j x small h = absurd (cc)
-  sound (suc d) n pos top i j x small h = s_climbing (expr limit d) (sound d) n pos top i j x small h
+  sound (suc d) n pos top i j x small h = s_climbing (read_expression limit d) (sound d) n pos top i j x small h

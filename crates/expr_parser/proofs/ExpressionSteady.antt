@@ -11,9 +11,9 @@ use Rattle.expr_parser.specs.declared.meaning.Infix.TheVariants as inf
 use Rattle.expr_parser.specs.declared.meaning.Behind.{Behind}
 use Rattle.expr_parser.specs.declared.meaning.Behind.TheVariants as follow
 use Rattle.expr_parser.specs.Input.{Parser}
-use Rattle.expr_parser.specs.Meaning.{start_of, infix_of, after_of, binds}
+use Rattle.expr_parser.specs.Meaning.{term_start, infix_of, after_of, binds}
 use Rattle.expr_parser.specs.Reading as reading
-use Rattle.expr_parser.specs.Reading.{named_by, prefix_by, operation_by, climb, expr}
+use Rattle.expr_parser.specs.Reading.{named_by, prefix_by, operation_by, climb, read_expression}
 use Rattle.expr_parser.proofs.Steady.{too_deep, deep, Limits, less_deep, Steady, Loops, bind, scope, done, refused, by_kind, either, raised, closed, enclosing, loosely, exhausted, named, numbered, looping, listing}
 
 climbs : (limit : ℕ) (r : ℕ → Parser Term) (least : ℕ) → Loops (λ c. nat_lt (binds (infix_of c)) least) (λ _ x. x) (reading.operation limit r) (climb limit r least)
@@ -34,8 +34,8 @@ module _ {E : Type 0} (k l : ℕ) (le : Limits E k l) (p q : ℕ → Parser Term
   unfolding reading.indexed
   indexed_steady = enclosing k l le fixed.LeftSquare fixed.RightSquare (λ _ x. x) (h 1)
 
-  arguments_steady : Steady E 0 (reading.arguments k p) (reading.arguments l q)
-  unfolding reading.arguments
+  arguments_steady : Steady E 0 (reading.read_arguments k p) (reading.read_arguments l q)
+  unfolding reading.read_arguments
   arguments_steady = either fixed.RightRound (done []) (listing value_steady)
 
   pub passed_steady : Steady E 1 (reading.passed k p) (reading.passed l q)
@@ -47,8 +47,8 @@ module _ {E : Type 0} (k l : ℕ) (le : Limits E k l) (p q : ℕ → Parser Term
   named_by_steady follow.Arguments n = loosely (bind passed_steady (λ xs. done _))
   named_by_steady follow.Nothing n = done _
 
-  named_steady : Steady E 1 (reading.named k p) (reading.named l q)
-  unfolding reading.named
+  named_steady : Steady E 1 (reading.named_term k p) (reading.named_term l q)
+  unfolding reading.named_term
   named_steady = bind named (λ n. by_kind (λ c. named_by k p (after_of c) n) (λ c. named_by l q (after_of c) n) (λ c. named_by_steady (after_of c) n))
 
   prefix_by_steady : (s : Start) → Steady E 1 (prefix_by k p s) (prefix_by l q s)
@@ -60,10 +60,10 @@ module _ {E : Type 0} (k l : ℕ) (le : Limits E k l) (p q : ℕ → Parser Term
 
   prefix_steady : Steady E 1 (reading.prefix k p) (reading.prefix l q)
   unfolding reading.prefix
-  prefix_steady = by_kind (λ c. prefix_by k p (start_of c)) (λ c. prefix_by l q (start_of c)) (λ c. prefix_by_steady (start_of c))
+  prefix_steady = by_kind (λ c. prefix_by k p (term_start c)) (λ c. prefix_by l q (term_start c)) (λ c. prefix_by_steady (term_start c))
 
   operation_by_steady : (left : Term) (s : Infix) → Steady E 1 (operation_by k p left s) (operation_by l q left s)
-  unfolding reading.chosen
+  unfolding reading.choose_term
   operation_by_steady left (inf.Joins op) = bind (raised k l le) (λ t. bind (h (level_of op + 1)) (λ x. done _))
   operation_by_steady left inf.Question = bind (raised k l le) (λ t. bind (h 1) (λ x. bind (closed fixed.Colon) (λ _. bind (h 1) (λ y. done _))))
   operation_by_steady left inf.Nothing = refused
@@ -80,9 +80,9 @@ module _ {E : Type 0} (k l : ℕ) (le : Limits E k l) (p q : ℕ → Parser Term
   unfolding reading.climbing
   climbing_steady least = bind prefix_steady (λ x. operations_steady least x)
 
-pub expr_steady : {E : Type 0} (k l : ℕ) → Limits E k l → (d e : ℕ) → Limits E d e → (least : ℕ) → Steady E 1 (expr k d least) (expr l e least)
-unfolding expr
+pub expr_steady : {E : Type 0} (k l : ℕ) → Limits E k l → (d e : ℕ) → Limits E d e → (least : ℕ) → Steady E 1 (read_expression k d least) (read_expression l e least)
+unfolding read_expression
 expr_steady k l le zero zero lower least = exhausted
 expr_steady k l le zero (suc e) lower least = record { within = λ i. too_deep (omega arith); same = λ x y h a v. deep (λ q z. absurd (let no = lower.equal q in omega (arith, no))) }
 expr_steady k l le (suc d) zero lower least = absurd (let h = lower.grows in omega (arith, h))
-expr_steady k l le (suc d) (suc e) lower least = climbing_steady k l le (expr k d) (expr l e) (expr_steady k l le d e (less_deep lower)) least
+expr_steady k l le (suc d) (suc e) lower least = climbing_steady k l le (read_expression k d) (read_expression l e) (expr_steady k l le d e (less_deep lower)) least

@@ -6,15 +6,15 @@ use Rattle.forec_tree.specs.declared.token.TokenKind.{TokenKind}
 use Rattle.forec_tree.specs.declared.token.TokenKind.TheVariants as kind
 use Rattle.forec_tree.specs.declared.tree.Name.{Name}
 use Rattle.forec_tree.specs.declared.tree.Number.{Number}
-use Rattle.forec_tree.specs.Spelling.{Spelt, at, tokens, IsName, IsNumber, name_at}
+use Rattle.forec_tree.specs.Spelling.{Spelt, at, tokens, IsNameToken, IsNumberToken, name_at}
 use Rattle.forec_tree.specs.Parts.{number_at}
 use Rattle.expr_parser.specs.declared.fault.Fault.TheVariants.{Syntax, Deep}
 use Rattle.expr_parser.specs.declared.fixed.Fixed.{Fixed}
 use Rattle.expr_parser.specs.declared.fixed.Fixed.TheVariants as fixed
 use Rattle.expr_parser.specs.Input.{Input, input, Parser, Outcome, and_then, ◌>>=◌, kind_ahead, take, raise}
-use Rattle.expr_parser.specs.Meaning.{is_fixed, name_of, number_of}
+use Rattle.expr_parser.specs.Meaning.{is_fixed, token_name, token_number}
 use Rattle.expr_parser.specs.Reading as reading
-use Rattle.expr_parser.specs.Reading.{next_is, close, enter, name, number, name_by, number_by, separated, separated_from}
+use Rattle.expr_parser.specs.Reading.{next_is, close, enter, name, read_number, name_by, number_by, separated, separated_from}
 use Rattle.expr_parser.proofs.Spans.{tokens_append, longer, within_join, BothSucceed, step, ok_of, ok_pair, Took, Raised, took, raised, head_kind, take_ok}
 use Rattle.expr_parser.proofs.Closers.{kind_of, fixed-kind, kind-fixed}
 use Rattle.expr_parser.proofs.Exact.{Lang, Read, Exact, Bind, Part, part, Any, Follows, comes, too_high, above_here, above_later, above_front, follow_behind, follow_then, follow_as, bind, convert}
@@ -35,10 +35,10 @@ pub data Up (f : Fixed) : ℕ → Token → ℕ → List Spelt → Option TokenK
   up : {v : ℕ} {t : Token} {k : Option TokenKind} → Is f t → Up f v t (v + 1) (at t (v + 1) ∷ []) k
 
 pub data NameIs : Name → ℕ → List Spelt → Type 0 where
-  name_is : {v : ℕ} {t : Token} (id : ℕ) → IsName id t → NameIs (name_at id t.place) v (at t v ∷ [])
+  name_is : {v : ℕ} {t : Token} (id : ℕ) → IsNameToken id t → NameIs (name_at id t.place) v (at t v ∷ [])
 
 pub data NumberIs : Number → ℕ → List Spelt → Type 0 where
-  number_is : {v : ℕ} {t : Token} (value : ℤ) → IsNumber value t → NumberIs (number_at value t.place) v (at t v ∷ [])
+  number_is : {v : ℕ} {t : Token} (value : ℤ) → IsNumberToken value t → NumberIs (number_at value t.place) v (at t v ∷ [])
 
 -- ---- fixed tokens
 
@@ -227,7 +227,7 @@ abbrev HasName : Option TokenKind → Option ℕ → Type 0
 HasName k None = Unit {0}
 HasName k (Some id) = k ≡ Some (kind.Name id)
 
-has_name : (k : Option TokenKind) → HasName k (name_of k)
+has_name : (k : Option TokenKind) → HasName k (token_name k)
 has_name (Some (kind.Name id)) = refl
 has_name _ = tt
 
@@ -235,7 +235,7 @@ abbrev HasNumber : Option TokenKind → Option ℤ → Type 0
 HasNumber k None = Unit {0}
 HasNumber k (Some value) = k ≡ Some (kind.Number value)
 
-has_number : (k : Option TokenKind) → HasNumber k (number_of k)
+has_number : (k : Option TokenKind) → HasNumber k (token_number k)
 has_number (Some (kind.Number value)) = refl
 has_number _ = tt
 
@@ -249,7 +249,7 @@ a_name limit = record { sound = so; complete = λ v w n ls rest q. of q rest }
         let a = step (take i) (λ t k. Ok (name_at id t.place, k)) (n, j) h in
         let t = took i.rest i.level a.value a.state a.was in
         let e = ok_pair (name_at id a.value.place) n a.state j a.goes in
-        let is : IsName id a.value = head_kind i.rest a.state.rest a.value (kind.Name id) t.front s in
+        let is : IsNameToken id a.value = head_kind i.rest a.state.rest a.value (kind.Name id) t.front s in
         let R : ℕ → Type 0 = λ z. Part Any NameIs i.level (name_at id a.value.place) z (at a.value i.level ∷ []) (kind_ahead a.state.rest) in
         let made : Read limit (Part Any NameIs) (name_at id a.value.place) i a.state =
         record { spelt = at a.value i.level ∷ []; front = t.front; spells = subst R (sym t.level) (part (name_is id is) tt); within = (small, tt); small = omega (arith, t.level) } in
@@ -258,13 +258,13 @@ a_name limit = record { sound = so; complete = λ v w n ls rest q. of q rest }
         subst T e.0 (subst S e.1 made)
 
     so : (i j : Input) (n : Name) → i.level ≤ limit → name i ≡ Ok (n, j) → Read limit (Part Any NameIs) n i j
-    so i j n small h = by i j n small (name_of (kind_ahead i.rest)) (has_name (kind_ahead i.rest)) h
+    so i j n small h = by i j n small (token_name (kind_ahead i.rest)) (has_name (kind_ahead i.rest)) h
 
     of : {v w : ℕ} {n : Name} {ls : List Spelt} {k : Option TokenKind} → Part Any NameIs v n w ls k → (rest : List Token) → Follows limit n w ls rest (name (input (tokens ls ++ rest) v))
-    of (part (name_is {v} {t} id h) c) rest = let e : name_of (Some t.kind) ≡ Some id = rw h in rw (e, take_ok) comes
+    of (part (name_is {v} {t} id h) c) rest = let e : token_name (Some t.kind) ≡ Some id = rw h in rw (e, take_ok) comes
 
-pub a_number : (limit : ℕ) → Exact limit number (Part Any NumberIs) (Part Any NumberIs)
-unfolding number
+pub a_number : (limit : ℕ) → Exact limit read_number (Part Any NumberIs) (Part Any NumberIs)
+unfolding read_number
 a_number limit = record { sound = so; complete = λ v w n ls rest q. of q rest }
   where
     by : (i j : Input) (n : Number) → i.level ≤ limit → (o : Option ℤ) → HasNumber (kind_ahead i.rest) o → number_by o i ≡ Ok (n, j) → Read limit (Part Any NumberIs) n i j
@@ -273,7 +273,7 @@ a_number limit = record { sound = so; complete = λ v w n ls rest q. of q rest }
         let a = step (take i) (λ t k. Ok (number_at value t.place, k)) (n, j) h in
         let t = took i.rest i.level a.value a.state a.was in
         let e = ok_pair (number_at value a.value.place) n a.state j a.goes in
-        let is : IsNumber value a.value = head_kind i.rest a.state.rest a.value (kind.Number value) t.front s in
+        let is : IsNumberToken value a.value = head_kind i.rest a.state.rest a.value (kind.Number value) t.front s in
         let R : ℕ → Type 0 = λ z. Part Any NumberIs i.level (number_at value a.value.place) z (at a.value i.level ∷ []) (kind_ahead a.state.rest) in
         let made : Read limit (Part Any NumberIs) (number_at value a.value.place) i a.state =
         record { spelt = at a.value i.level ∷ []; front = t.front; spells = subst R (sym t.level) (part (number_is value is) tt); within = (small, tt); small = omega (arith, t.level) } in
@@ -281,11 +281,11 @@ a_number limit = record { sound = so; complete = λ v w n ls rest q. of q rest }
         let T : Number → Type 0 = λ z. Read limit (Part Any NumberIs) z i j in
         subst T e.0 (subst S e.1 made)
 
-    so : (i j : Input) (n : Number) → i.level ≤ limit → number i ≡ Ok (n, j) → Read limit (Part Any NumberIs) n i j
-    so i j n small h = by i j n small (number_of (kind_ahead i.rest)) (has_number (kind_ahead i.rest)) h
+    so : (i j : Input) (n : Number) → i.level ≤ limit → read_number i ≡ Ok (n, j) → Read limit (Part Any NumberIs) n i j
+    so i j n small h = by i j n small (token_number (kind_ahead i.rest)) (has_number (kind_ahead i.rest)) h
 
-    of : {v w : ℕ} {n : Number} {ls : List Spelt} {k : Option TokenKind} → Part Any NumberIs v n w ls k → (rest : List Token) → Follows limit n w ls rest (number (input (tokens ls ++ rest) v))
-    of (part (number_is {v} {t} value h) c) rest = let e : number_of (Some t.kind) ≡ Some value = rw h in rw (e, take_ok) comes
+    of : {v w : ℕ} {n : Number} {ls : List Spelt} {k : Option TokenKind} → Part Any NumberIs v n w ls k → (rest : List Token) → Follows limit n w ls rest (read_number (input (tokens ls ++ rest) v))
+    of (part (number_is {v} {t} value h) c) rest = let e : token_number (Some t.kind) ≡ Some value = rw h in rw (e, take_ok) comes
 
 -- ---- lists with commas
 

@@ -16,7 +16,7 @@ use Rattle.expr_parser.specs.declared.meaning.Start.TheVariants as beg
 use Rattle.expr_parser.specs.declared.meaning.Infix.{Infix}
 use Rattle.expr_parser.specs.declared.meaning.Infix.TheVariants as inf
 use Rattle.expr_parser.specs.declared.meaning.Behind.TheVariants as follow
-use Rattle.expr_parser.specs.Meaning.{start_of, infix_of, after_of, binds, is_fixed}
+use Rattle.expr_parser.specs.Meaning.{term_start, infix_of, after_of, binds, is_fixed}
 pub use Rattle.expr_parser.specs.Meaning.{ends}
 
 -- ---- backwards
@@ -28,7 +28,7 @@ Begins k (beg.Sign op) = k ≡ Some (kind.Mark (sign_of op))
 Begins k beg.Round = Unit {0}
 Begins k beg.Nothing = Unit {0}
 
-pub begins : (k : Option TokenKind) → Begins k (start_of k)
+pub begins : (k : Option TokenKind) → Begins k (term_start k)
 begins (Some (kind.Mark mark.Minus)) = refl
 begins (Some (kind.Mark mark.Tilde)) = refl
 begins (Some (kind.Mark mark.Bang)) = refl
@@ -66,7 +66,7 @@ joins _ = tt
 
 -- ---- forwards
 
-pub sign_start : (op : Unary) → start_of (Some (kind.Mark (sign_of op))) ≡ beg.Sign op
+pub sign_start : (op : Unary) → term_start (Some (kind.Mark (sign_of op))) ≡ beg.Sign op
 sign_start un.Minus = refl
 sign_start un.Invert = refl
 sign_start un.Not = refl

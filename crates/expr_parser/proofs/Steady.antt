@@ -7,9 +7,9 @@ use Rattle.expr_parser.specs.declared.fault.Fault.TheVariants.{Syntax, Deep, Out
 use Rattle.expr_parser.specs.declared.fixed.Fixed.{Fixed}
 use Rattle.expr_parser.specs.declared.fixed.Fixed.TheVariants as fixed
 use Rattle.expr_parser.specs.Input.{Input, input, Parser, Outcome, and_then, ◌>>=◌, pure, refuse, scoped, kind_ahead, take, take_from, raise, raise_from}
-use Rattle.expr_parser.specs.Meaning.{is_fixed, name_of, number_of}
+use Rattle.expr_parser.specs.Meaning.{is_fixed, token_name, token_number}
 use Rattle.expr_parser.specs.Reading as reading
-use Rattle.expr_parser.specs.Reading.{next_is, close, enter, name, number, name_by, number_by, separated, separated_from}
+use Rattle.expr_parser.specs.Reading.{next_is, close, enter, name, read_number, name_by, number_by, separated, separated_from}
 use Rattle.expr_parser.proofs.Spans.{lt_true}
 
 -- tokens that begin with the same one, or none at all
@@ -265,15 +265,15 @@ enclosing k l le left right f a = scope (bind (entered left k l le) (λ t. bind 
 
 pub named : {E : Type 0} → Steady E 1 name name
 unfolding name
-named {E} = by_kind (λ k. name_by (name_of k)) (λ k. name_by (name_of k)) (λ k. by (name_of k))
+named {E} = by_kind (λ k. name_by (token_name k)) (λ k. name_by (token_name k)) (λ k. by (token_name k))
   where
     by : (o : Option ℕ) → Steady E 1 (name_by o) (name_by o)
     by (Some id) = bind taken (λ t. done _)
     by None = refused
 
-pub numbered : {E : Type 0} → Steady E 1 number number
-unfolding number
-numbered {E} = by_kind (λ k. number_by (number_of k)) (λ k. number_by (number_of k)) (λ k. by (number_of k))
+pub numbered : {E : Type 0} → Steady E 1 read_number read_number
+unfolding read_number
+numbered {E} = by_kind (λ k. number_by (token_number k)) (λ k. number_by (token_number k)) (λ k. by (token_number k))
   where
     by : (o : Option ℤ) → Steady E 1 (number_by o) (number_by o)
     by (Some value) = bind taken (λ t. done _)

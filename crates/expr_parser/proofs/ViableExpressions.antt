@@ -9,7 +9,7 @@ use Rattle.forec_tree.specs.declared.operators.Operator.TheVariants as oper
 use Rattle.forec_tree.specs.declared.tree.Name.{Name}
 use Rattle.forec_tree.specs.Terms as plain
 use Rattle.forec_tree.specs.Terms.{Term}
-use Rattle.forec_tree.specs.Spelling.{Spelt, at, level_of, joined, listed, Whole, Brackets, Indexes, Passes, Arguments, passes_none, passes, one, more, IsMark}
+use Rattle.forec_tree.specs.Spelling.{Spelt, at, level_of, operator_term, listed, Whole, Brackets, SpellsIndex, SpellsArguments, SpellsExpressions, passes_none, passes, one, more, IsMark}
 use Rattle.forec_tree.specs.Spelling as sp
 use Rattle.expr_parser.specs.declared.fault.Fault.{Fault}
 use Rattle.expr_parser.specs.declared.fault.Fault.TheVariants.{Syntax}
@@ -21,9 +21,9 @@ use Rattle.expr_parser.specs.declared.meaning.Infix.TheVariants as inf
 use Rattle.expr_parser.specs.declared.meaning.Behind.{Behind}
 use Rattle.expr_parser.specs.declared.meaning.Behind.TheVariants as follow
 use Rattle.expr_parser.specs.Input.{Input, Parser, and_then, kind_ahead, raise}
-use Rattle.expr_parser.specs.Meaning.{start_of, infix_of, after_of, binds}
+use Rattle.expr_parser.specs.Meaning.{term_start, infix_of, after_of, binds}
 use Rattle.expr_parser.specs.Reading as reading
-use Rattle.expr_parser.specs.Reading.{infix_at, ahead, expr, climb, prefix, prefix_by, named_by, operation, operation_by}
+use Rattle.expr_parser.specs.Reading.{infix_at, binding_ahead, read_expression, climb, prefix, prefix_by, named_by, operation, operation_by}
 use Rattle.expr_parser.proofs.Spans.{first, ok_of}
 use Rattle.expr_parser.proofs.Closers.{kind_of}
 use Rattle.expr_parser.proofs.Exact.{Read, Bind, both, Map, If, on, off, Done, done, Part, part, Any, then_read, read_as}
@@ -76,26 +76,26 @@ least_operates : {left : Term} {k : Option TokenKind} → Plain k → (v : ℕ) 
 least_operates e v =
     let t = made (kind.Mark mark.OrOr) in
     let s = least_found {n = 3} (omega arith) e (v + 1) in
-    record { value = joined oper.Or t.place _ s.value; last = s.last; tokens = at t (v + 1) ∷ s.tokens; spells = joins_to oper.Or refl s.spells; begins = refl }
+    record { value = operator_term oper.Or t.place _ s.value; last = s.last; tokens = at t (v + 1) ∷ s.tokens; spells = joins_to oper.Or refl s.spells; begins = refl }
 
 -- ---- arguments, and none
 
-more_in : {v w : ℕ} {x : Term} {xs : List Term} {ls rs : List Spelt} {k : Option TokenKind} (comma : Token) → Whole x v ls → IsMark mark.Comma comma → Part Any Arguments v xs w rs k
-    → Part Any Arguments v (x ∷ xs) w (ls ++ (at comma v ∷ rs)) k
+more_in : {v w : ℕ} {x : Term} {xs : List Term} {ls rs : List Spelt} {k : Option TokenKind} (comma : Token) → Whole x v ls → IsMark mark.Comma comma → Part Any SpellsExpressions v xs w rs k
+    → Part Any SpellsExpressions v (x ∷ xs) w (ls ++ (at comma v ∷ rs)) k
 more_in comma s h (part r c) = part (more comma s h r) tt
 
-pub arguments_part : {v w : ℕ} {xs : List Term} {ls : List Spelt} {k : Option TokenKind} → Listed (Part Any Whole) v xs w ls k → Part Any Arguments v xs w ls k
+pub arguments_part : {v w : ℕ} {xs : List Term} {ls : List Spelt} {k : Option TokenKind} → Listed (Part Any Whole) v xs w ls k → Part Any SpellsExpressions v xs w ls k
 arguments_part (end_of_list (part s c) e) = part (one s) tt
 arguments_part (next_of_list comma (part s c) h rest) = more_in comma s h (arguments_part rest)
 
 data Given : List Term → ℕ → List Spelt → Type 0 where
   no_args : {v : ℕ} → Given [] v []
-  some_args : {v : ℕ} {xs : List Term} {ls : List Spelt} → Arguments xs v ls → Given xs v ls
+  some_args : {v : ℕ} {xs : List Term} {ls : List Spelt} → SpellsExpressions xs v ls → Given xs v ls
 
-some_given : {v w : ℕ} {xs : List Term} {ls : List Spelt} {k : Option TokenKind} → Part Any Arguments v xs w ls k → Part Any Given v xs w ls k
+some_given : {v w : ℕ} {xs : List Term} {ls : List Spelt} {k : Option TokenKind} → Part Any SpellsExpressions v xs w ls k → Part Any Given v xs w ls k
 some_given (part s c) = part (some_args s) tt
 
-passes_given : {v w : ℕ} {xs : List Term} {ls : List Spelt} {k : Option TokenKind} → Enclosed fixed.LeftRound fixed.RightRound (λ _ y. y) (Part Any Given) v xs w ls k → Part Any Passes v xs w ls k
+passes_given : {v w : ℕ} {xs : List Term} {ls : List Spelt} {k : Option TokenKind} → Enclosed fixed.LeftRound fixed.RightRound (λ _ y. y) (Part Any Given) v xs w ls k → Part Any SpellsArguments v xs w ls k
 passes_given (between right hl (part no_args c) hr) = part (passes_none hl hr) tt
 passes_given (between right hl (part (some_args s) c) hr) = part (passes right hl s hr) tt
 
@@ -154,7 +154,7 @@ module _ (limit : ℕ) where
       bracketed_at {k} = convert (brackets_of limit ex so)
           (enclosing fixed.LeftRound fixed.RightRound (λ _ y. y) (own limit ex so) (found_keeps (omega arith) refl) (view 1 (omega arith) (omega arith) (Some (kind_of fixed.RightRound)) refl))
 
-      pub indexed_at : {k : Option TokenKind} → Viable limit low (reading.indexed limit ex) (Part Any Indexes) (Some (kind_of fixed.LeftSquare)) k
+      pub indexed_at : {k : Option TokenKind} → Viable limit low (reading.indexed limit ex) (Part Any SpellsIndex) (Some (kind_of fixed.LeftSquare)) k
       unfolding reading.indexed
       indexed_at {k} = convert (indexes_of limit ex so)
           (enclosing fixed.LeftSquare fixed.RightSquare (λ _ y. y) (own limit ex so) (found_keeps (omega arith) refl) (view 1 (omega arith) (omega arith) (Some (kind_of fixed.RightSquare)) refl))
@@ -165,8 +165,8 @@ module _ (limit : ℕ) where
       given_of (on e done) = part no_args tt
       given_of (off e s) = some_given (arguments_part s)
 
-      pub passed_at : {k : Option TokenKind} → Viable limit low (reading.passed limit ex) (Part Any Passes) (Some (kind_of fixed.LeftRound)) k
-      unfolding reading.passed reading.arguments
+      pub passed_at : {k : Option TokenKind} → Viable limit low (reading.passed limit ex) (Part Any SpellsArguments) (Some (kind_of fixed.LeftRound)) k
+      unfolding reading.passed reading.read_arguments
       passed_at {k} = convert (λ v w x ls o q. passes_given q)
           (enclosing fixed.LeftRound fixed.RightRound (λ _ y. y)
           (exact.convert (λ v w x ls o q. given_of q) (λ v w x ls o q. q) (exact.either fixed.RightRound (exact.done_at []) (some_values limit ex so))) part_keeps
@@ -184,8 +184,8 @@ module _ (limit : ℕ) where
               refused_to (λ v w x ls o q. call_of q) ((map_to (λ args. plain.Call n.place n (listed args)) passed_at).refused i e deep small h)
           of follow.Nothing i e deep small h = absurd (cc)
 
-      named_at : {k : Option TokenKind} → Viable limit low (reading.named limit ex) (At 12) a_name k
-      unfolding reading.named
+      named_at : {k : Option TokenKind} → Viable limit low (reading.named_term limit ex) (At 12) a_name k
+      unfolding reading.named_term
       named_at = convert (λ v w x ls o q. named_of q) (bind (leaf.a_name limit) part_keeps name_here behind_at)
 
       sign_at : {k : Option TokenKind} (op : _) → Plain k → Viable limit low (λ i. prefix_by limit ex (beg.Sign op) i) (Bind Opens (λ t. Map (λ z. plain.Un t.place op z) (ParsedAt 12))) (Some (kind.Mark mark.Minus)) k
@@ -201,17 +201,17 @@ module _ (limit : ℕ) where
 
       prefix_at : {k : Option TokenKind} → Plain k → Viable limit low (prefix limit ex) (At 12) a_number k
       unfolding prefix
-      prefix_at p = record { refused = λ i e deep small h. prefix_stops p (start_of (kind_ahead i.rest)) i e (begins (kind_ahead i.rest)) deep small h; least = least_at }
+      prefix_at p = record { refused = λ i e deep small h. prefix_stops p (term_start (kind_ahead i.rest)) i e (begins (kind_ahead i.rest)) deep small h; least = least_at }
 
       -- ---- operators
 
-      joins_at : {k : Option TokenKind} (left : Term) (op : _) → Plain k → Viable limit low (λ i. operation_by limit ex left (inf.Joins op) i) (Bind Opens (λ t. Map (λ z. joined op t.place left z) (ParsedAt (level_of op + 1)))) (Some (kind.Mark mark.Minus)) k
+      joins_at : {k : Option TokenKind} (left : Term) (op : _) → Plain k → Viable limit low (λ i. operation_by limit ex left (inf.Joins op) i) (Bind Opens (λ t. Map (λ z. operator_term op t.place left z) (ParsedAt (level_of op + 1)))) (Some (kind.Mark mark.Minus)) k
       joins_at {k} left op e =
           let bounds = level_bounds op in
-          bind (a_raise limit) opens_keep raise_at (λ t. map_to (λ y. joined op t.place left y) (view (level_of op + 1) (omega arith) (omega (arith, bounds.1)) k e))
+          bind (a_raise limit) opens_keep raise_at (λ t. map_to (λ y. operator_term op t.place left y) (view (level_of op + 1) (omega arith) (omega (arith, bounds.1)) k e))
 
-      chosen_at : {k : Option TokenKind} (left : Term) → Plain k → Viable limit low (reading.chosen limit ex left) (Bind Opens (λ t. Bind (ParsedAt 1) (λ a. Bind (leaf.Tok fixed.Colon) (λ _. Map (λ c. plain.Choose t.place left a c) (ParsedAt 1))))) (Some (kind.Mark mark.Minus)) k
-      unfolding reading.chosen
+      chosen_at : {k : Option TokenKind} (left : Term) → Plain k → Viable limit low (reading.choose_term limit ex left) (Bind Opens (λ t. Bind (ParsedAt 1) (λ a. Bind (leaf.Tok fixed.Colon) (λ _. Map (λ c. plain.Choose t.place left a c) (ParsedAt 1))))) (Some (kind.Mark mark.Minus)) k
+      unfolding reading.choose_term
       chosen_at {k} left e =
           bind (a_raise limit) opens_keep raise_at (λ t. bind (own limit ex so) (found_keeps (omega arith) refl) (view 1 (omega arith) (omega arith) (Some (kind_of fixed.Colon)) refl)
           (λ a. bind (token limit fixed.Colon) token_keeps (token_at fixed.Colon) (λ _. map_to (λ c. plain.Choose t.place left a c) (view 1 (omega arith) (omega arith) k e))))
@@ -235,7 +235,7 @@ module _ (limit : ℕ) where
 
       fails_end : {k : Option TokenKind} → Plain k → ClimbRefused k zero
       unfolding climb
-      fails_end {k} p n x i j e pos' deep g h = by_test (nat_lt (ahead j) n) h
+      fails_end {k} p n x i j e pos' deep g h = by_test (nat_lt (binding_ahead j) n) h
         where
           by_test : (b : Bool) → cond b (ok_of x j) (Err (Syntax (length j.rest))) ≡ Err e → Refused limit (ParsedAt n) k i e
           by_test true h = absurd (cc)
@@ -243,18 +243,18 @@ module _ (limit : ℕ) where
 
       fails_turn : {k : Option TokenKind} → Plain k → (turns : ℕ) → ClimbRefused k turns → ClimbRefused k (suc turns)
       unfolding climb
-      fails_turn {k} p turns ih n x i j e pos' deep g h = by_test (nat_lt (ahead j) n) refl h
+      fails_turn {k} p turns ih n x i j e pos' deep g h = by_test (nat_lt (binding_ahead j) n) refl h
         where
-          on' : n ≤ ahead j → (operation limit ex x j ≡ Err e) ⊎ Second (operation limit ex x j) (climb limit ex n turns) e → Refused limit (ParsedAt n) k i e
+          on' : n ≤ binding_ahead j → (operation limit ex x j ≡ Err e) ⊎ Second (operation limit ex x j) (climb limit ex n turns) e → Refused limit (ParsedAt n) k i e
           on' high (inl z) =
               fails_on p n x i j e pos' g (refused_as ((operation_at x p).refused j e deep g.small z) (least_onward j.level)
-              (λ w y ls f q. goes (goes_on q (let u : binds (infix_of (first ls k)) ≡ ahead j = ap (λ o. binds (infix_of o)) f in omega arith))))
+              (λ w y ls f q. goes (goes_on q (let u : binds (infix_of (first ls k)) ≡ binding_ahead j = ap (λ o. binds (infix_of o)) f in omega arith))))
           on' high (inr z) =
               let o = goes_of limit ex so n x j z.state z.value g.small high z.was in
               let both' : Read limit (Bind (SoFar n) (OperatesAt n)) z.value i z.state = then_read g o in
               ih n z.value i z.state e pos' (omega (arith, goes_rises o.spells)) (read_as both' (λ ls e q. join q)) z.goes
 
-          by_test : (b : Bool) → nat_lt (ahead j) n ≡ b → cond b (ok_of x j) (and_then (operation limit ex x j) (climb limit ex n turns)) ≡ Err e → Refused limit (ParsedAt n) k i e
+          by_test : (b : Bool) → nat_lt (binding_ahead j) n ≡ b → cond b (ok_of x j) (and_then (operation limit ex x j) (climb limit ex n turns)) ≡ Err e → Refused limit (ParsedAt n) k i e
           by_test true c h = absurd (cc)
           by_test false c h = on' (grind arith) (failed (operation limit ex x j) (climb limit ex n turns) e h)
 
@@ -273,7 +273,7 @@ module _ (limit : ℕ) where
               fails p (length z.state.rest) n z.value i z.state e pos' (omega (arith, at_rises g.spells)) (read_as g (λ ls e q. so_far_of n top q)) z.goes
 
   -- An expression is refused after the front of one, where the depth lasts up to the limit of levels.
-  pub viable : (d low : ℕ) → limit < d + low → Views low (expr limit d)
-  unfolding expr
+  pub viable : (d low : ℕ) → limit < d + low → Views low (read_expression limit d)
+  unfolding read_expression
   viable zero low deep n pos' top k p = record { refused = λ i e le small h. absurd (omega arith); least = least_found pos' p }
-  viable (suc d) low deep n pos' top k p = record { refused = climbing_stops (expr limit d) (sound limit d) low (viable d (low + 1) (omega arith)) n pos' top k p; least = least_found pos' p }
+  viable (suc d) low deep n pos' top k p = record { refused = climbing_stops (read_expression limit d) (sound limit d) low (viable d (low + 1) (omega arith)) n pos' top k p; least = least_found pos' p }

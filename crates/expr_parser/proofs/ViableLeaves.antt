@@ -11,9 +11,9 @@ use Rattle.expr_parser.specs.declared.fault.Fault.TheVariants.{Syntax, Deep}
 use Rattle.expr_parser.specs.declared.fixed.Fixed.{Fixed}
 use Rattle.expr_parser.specs.declared.fixed.Fixed.TheVariants as fixed
 use Rattle.expr_parser.specs.Input.{Input, input, Parser, and_then, kind_ahead, take, take_from, raise}
-use Rattle.expr_parser.specs.Meaning.{is_fixed, name_of, number_of}
+use Rattle.expr_parser.specs.Meaning.{is_fixed, token_name, token_number}
 use Rattle.expr_parser.specs.Reading as reading
-use Rattle.expr_parser.specs.Reading.{close, enter, name, number, name_by, number_by, separated, separated_from}
+use Rattle.expr_parser.specs.Reading.{close, enter, name, read_number, name_by, number_by, separated, separated_from}
 use Rattle.expr_parser.proofs.Spans.{ok_of}
 use Rattle.expr_parser.proofs.Closers.{kind_of, fixed-kind}
 use Rattle.expr_parser.proofs.Exact.{Lang, Exact, Bind, both, Map, mapped, Scoped, inside, Part, part, Any}
@@ -158,25 +158,25 @@ module _ {limit low : ℕ} where
 
   pub name_here : {k : Option TokenKind} → Viable limit low name (Part Any NameIs) a_name k
   unfolding name
-  name_here {k} = record { refused = λ i e deep small h. by i e (name_of (kind_ahead i.rest)) refl h; least = le }
+  name_here {k} = record { refused = λ i e deep small h. by i e (token_name (kind_ahead i.rest)) refl h; least = le }
     where
       le : (v : ℕ) → Least (Part Any NameIs) a_name k v
       le v = let t = made (kind.Name 0) in record { value = name_at 0 t.place; last = v; tokens = at t v ∷ []; spells = part (name_is 0 refl) tt; begins = refl }
 
-      by : (i : Input) (e : Fault) (o : Option ℕ) → name_of (kind_ahead i.rest) ≡ o → name_by o i ≡ Err e → Refused limit (Part Any NameIs) k i e
+      by : (i : Input) (e : Fault) (o : Option ℕ) → token_name (kind_ahead i.rest) ≡ o → name_by o i ≡ Err e → Refused limit (Part Any NameIs) k i e
       by i e None s h = refused_here (le i.level) (cc)
-      by i e (Some id) s h = absurd (taken_always name_of (λ t. name_at id t.place) i id e refl s h)
+      by i e (Some id) s h = absurd (taken_always token_name (λ t. name_at id t.place) i id e refl s h)
 
-  pub number_here : {k : Option TokenKind} → Viable limit low number (Part Any NumberIs) a_number k
-  unfolding number
-  number_here {k} = record { refused = λ i e deep small h. by i e (number_of (kind_ahead i.rest)) refl h; least = le }
+  pub number_here : {k : Option TokenKind} → Viable limit low read_number (Part Any NumberIs) a_number k
+  unfolding read_number
+  number_here {k} = record { refused = λ i e deep small h. by i e (token_number (kind_ahead i.rest)) refl h; least = le }
     where
       le : (v : ℕ) → Least (Part Any NumberIs) a_number k v
       le v = let t = made (kind.Number (pos 1)) in record { value = number_at (pos 1) t.place; last = v; tokens = at t v ∷ []; spells = part (number_is (pos 1) refl) tt; begins = refl }
 
-      by : (i : Input) (e : Fault) (o : Option ℤ) → number_of (kind_ahead i.rest) ≡ o → number_by o i ≡ Err e → Refused limit (Part Any NumberIs) k i e
+      by : (i : Input) (e : Fault) (o : Option ℤ) → token_number (kind_ahead i.rest) ≡ o → number_by o i ≡ Err e → Refused limit (Part Any NumberIs) k i e
       by i e None s h = refused_here (le i.level) (cc)
-      by i e (Some value) s h = absurd (taken_always number_of (λ t. number_at value t.place) i value e refl s h)
+      by i e (Some value) s h = absurd (taken_always token_number (λ t. number_at value t.place) i value e refl s h)
 
 -- ---- brackets
 

@@ -79,7 +79,7 @@ Reads view outcome (Ok a) new = outcome ≡ Ok (view a, new)
 Reads view outcome (Err e) new = e ≢ OutOfMemory → outcome ≡ Err e
 
 -- where the tokens stand when a function that reads refuses: at the refused one, so as many are left as its fault tells
-abbrev pub StandsAt : Fault → Input → Type 0
-StandsAt (Syntax left) i = left ≡ length i.rest
-StandsAt (Deep left) i = left ≡ length i.rest
-StandsAt OutOfMemory i = Unit {0}
+abbrev pub RefusesAt : Fault → Input → Type 0
+RefusesAt (Syntax left) i = left ≡ length i.rest
+RefusesAt (Deep left) i = left ≡ length i.rest
+RefusesAt OutOfMemory i = Unit {0}

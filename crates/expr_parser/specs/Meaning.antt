@@ -96,22 +96,22 @@ is_fixed f k = same_fixed f (fixed_of k)
 
 -- ---- expressions
 
-abbrev pub name_of : Option TokenKind → Option ℕ
-name_of (Some (kind.Name id)) = Some id
-name_of _ = None
+abbrev pub token_name : Option TokenKind → Option ℕ
+token_name (Some (kind.Name id)) = Some id
+token_name _ = None
 
-abbrev pub number_of : Option TokenKind → Option ℤ
-number_of (Some (kind.Number value)) = Some value
-number_of _ = None
+abbrev pub token_number : Option TokenKind → Option ℤ
+token_number (Some (kind.Number value)) = Some value
+token_number _ = None
 
-abbrev pub start_of : Option TokenKind → Start
-start_of (Some (kind.Number value)) = beg.Literal
-start_of (Some (kind.Name id)) = beg.Named
-start_of (Some (kind.Mark mark.Minus)) = beg.Sign un.Minus
-start_of (Some (kind.Mark mark.Tilde)) = beg.Sign un.Invert
-start_of (Some (kind.Mark mark.Bang)) = beg.Sign un.Not
-start_of (Some (kind.Mark mark.LeftRound)) = beg.Round
-start_of _ = beg.Nothing
+abbrev pub term_start : Option TokenKind → Start
+term_start (Some (kind.Number value)) = beg.Literal
+term_start (Some (kind.Name id)) = beg.Named
+term_start (Some (kind.Mark mark.Minus)) = beg.Sign un.Minus
+term_start (Some (kind.Mark mark.Tilde)) = beg.Sign un.Invert
+term_start (Some (kind.Mark mark.Bang)) = beg.Sign un.Not
+term_start (Some (kind.Mark mark.LeftRound)) = beg.Round
+term_start _ = beg.Nothing
 
 abbrev pub infix_of : Option TokenKind → Infix
 infix_of (Some (kind.Mark mark.OrOr)) = inf.Joins oper.Or

@@ -5,7 +5,7 @@ use Rattle.forec_tree.specs.declared.tree.Name.{Name}
 use Rattle.forec_tree.specs.declared.tree.Number.{Number}
 use Rattle.forec_tree.specs.Terms as plain
 use Rattle.forec_tree.specs.Terms.{Term}
-use Rattle.forec_tree.specs.Spelling.{name_at, joined, listed, level_of}
+use Rattle.forec_tree.specs.Spelling.{name_at, operator_term, listed, level_of}
 use Rattle.forec_tree.specs.Parts.{number_at}
 use Rattle.expr_parser.specs.declared.fault.Fault.TheVariants.{Deep}
 use Rattle.expr_parser.specs.declared.fixed.Fixed.{Fixed}
@@ -17,7 +17,7 @@ use Rattle.expr_parser.specs.declared.meaning.Infix.TheVariants as inf
 use Rattle.expr_parser.specs.declared.meaning.Behind.{Behind}
 use Rattle.expr_parser.specs.declared.meaning.Behind.TheVariants as follow
 use Rattle.expr_parser.specs.Input.{Input, Parser, ◌>>=◌, ◌>>◌, pure, refuse, scoped, kind_ahead, take, raise}
-use Rattle.expr_parser.specs.Meaning.{name_of, number_of, start_of, infix_of, after_of, binds, is_fixed}
+use Rattle.expr_parser.specs.Meaning.{token_name, token_number, term_start, infix_of, after_of, binds, is_fixed}
 
 -- whether the next token is this one
 abbrev pub next_is : Fixed → Input → Bool
@@ -46,7 +46,7 @@ name_by (Some id) = do
 name_by None = refuse
 
 unfoldable pub name : Parser Name
-name = λ i. name_by (name_of (kind_ahead i.rest)) i
+name = λ i. name_by (token_name (kind_ahead i.rest)) i
 
 abbrev pub number_by : Option ℤ → Parser Number
 number_by (Some value) = do
@@ -54,8 +54,8 @@ number_by (Some value) = do
   pure (number_at value t.place)
 number_by None = refuse
 
-unfoldable pub number : Parser Number
-number = λ i. number_by (number_of (kind_ahead i.rest)) i
+unfoldable pub read_number : Parser Number
+read_number = λ i. number_by (token_number (kind_ahead i.rest)) i
 
 -- One or more parts, with a comma between each two. The count is that of the turns, one for each token that is left.
 unfoldable pub separated_from : {A : Type 0} → Parser A → ℕ → List A → Parser (List A)
@@ -70,8 +70,8 @@ separated part = λ i. separated_from part (length i.rest) [] i
 abbrev pub infix_at : Input → Infix
 infix_at i = infix_of (kind_ahead i.rest)
 
-abbrev pub ahead : Input → ℕ
-ahead i = binds (infix_at i)
+abbrev pub binding_ahead : Input → ℕ
+binding_ahead i = binds (infix_at i)
 
 -- `expr` reads an expression that goes on with the operators of this level and above.
 module _ (limit : ℕ) (expr : ℕ → Parser Term) where
@@ -85,12 +85,12 @@ module _ (limit : ℕ) (expr : ℕ → Parser Term) where
   unfoldable pub indexed : Parser Term
   indexed = enclosed limit fixed.LeftSquare fixed.RightSquare (λ _ index. index) (expr 1)
 
-  unfoldable pub arguments : Parser (List Term)
-  arguments = λ i. if next_is fixed.RightRound i then Ok ([], i) else separated value i
+  unfoldable pub read_arguments : Parser (List Term)
+  read_arguments = λ i. if next_is fixed.RightRound i then Ok ([], i) else separated value i
 
   -- the arguments of a call, with their brackets
   unfoldable pub passed : Parser (List Term)
-  passed = enclosed limit fixed.LeftRound fixed.RightRound (λ _ args. args) arguments
+  passed = enclosed limit fixed.LeftRound fixed.RightRound (λ _ args. args) read_arguments
 
   abbrev pub named_by : Behind → Name → Parser Term
   named_by follow.Index n = do
@@ -101,16 +101,16 @@ module _ (limit : ℕ) (expr : ℕ → Parser Term) where
     pure (plain.Call n.place n (listed args))
   named_by follow.Nothing n = pure (plain.Read n.place n)
 
-  unfoldable pub named : Parser Term
-  named = do
+  unfoldable pub named_term : Parser Term
+  named_term = do
     n ← name
     (λ i. named_by (after_of (kind_ahead i.rest)) n i)
 
   abbrev pub prefix_by : Start → Parser Term
   prefix_by beg.Literal = do
-    n ← number
+    n ← read_number
     pure (plain.Num n.place n.value)
-  prefix_by beg.Named = named
+  prefix_by beg.Named = named_term
   prefix_by (beg.Sign op) = do
     t ← raise limit
     part ← expr 12
@@ -119,10 +119,10 @@ module _ (limit : ℕ) (expr : ℕ → Parser Term) where
   prefix_by beg.Nothing = refuse
 
   unfoldable pub prefix : Parser Term
-  prefix = λ i. prefix_by (start_of (kind_ahead i.rest)) i
+  prefix = λ i. prefix_by (term_start (kind_ahead i.rest)) i
 
-  unfoldable pub chosen : Term → Parser Term
-  chosen test = do
+  unfoldable pub choose_term : Term → Parser Term
+  choose_term test = do
     t ← raise limit
     first ← expr 1
     close fixed.Colon
@@ -133,16 +133,16 @@ module _ (limit : ℕ) (expr : ℕ → Parser Term) where
   operation_by left (inf.Joins op) = do
     t ← raise limit
     right ← expr (level_of op + 1)
-    pure (joined op t.place left right)
-  operation_by left inf.Question = chosen left
+    pure (operator_term op t.place left right)
+  operation_by left inf.Question = choose_term left
   operation_by left inf.Nothing = refuse
 
   unfoldable pub operation : Term → Parser Term
   operation left = λ i. operation_by left (infix_at i) i
 
   unfoldable pub climb : ℕ → ℕ → Term → Parser Term
-  climb least zero left = λ i. if nat_lt (ahead i) least then Ok (left, i) else refuse i
-  climb least (suc n) left = λ i. if nat_lt (ahead i) least then Ok (left, i) else (operation left >>= climb least n) i
+  climb least zero left = λ i. if nat_lt (binding_ahead i) least then Ok (left, i) else refuse i
+  climb least (suc n) left = λ i. if nat_lt (binding_ahead i) least then Ok (left, i) else (operation left >>= climb least n) i
 
   unfoldable pub operations : ℕ → Term → Parser Term
   operations least left = λ i. climb least (length i.rest) left i
@@ -151,6 +151,6 @@ module _ (limit : ℕ) (expr : ℕ → Parser Term) where
   climbing least = prefix >>= operations least
 
 -- with expressions nested no deeper than the second number
-unfoldable pub expr : ℕ → ℕ → ℕ → Parser Term
-expr limit zero least = λ i. Err (Deep (length i.rest))
-expr limit (suc depth) least = climbing limit (expr limit depth) least
+unfoldable pub read_expression : ℕ → ℕ → ℕ → Parser Term
+read_expression limit zero least = λ i. Err (Deep (length i.rest))
+read_expression limit (suc depth) least = climbing limit (read_expression limit depth) least

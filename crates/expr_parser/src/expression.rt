@@ -3,7 +3,7 @@
 ghost use Rattle.std.specs.Prelude.{◌≡◌, nat_lt, map, IfErr};
 ghost use Rattle.forec_tree.specs.Plain.{term};
 ghost use Rattle.expr_parser.specs.Boxes.{term_in};
-ghost use Rattle.expr_parser.specs.Input.{Reads, StandsAt, max_level};
+ghost use Rattle.expr_parser.specs.Input.{Reads, RefusesAt, max_level};
 ghost use Rattle.expr_parser.specs.Reading as spec;
 
 use crate::fault::Fault;
@@ -17,22 +17,22 @@ use std::alloc::Global;
 
 /// Whether no operator of level `least` or above follows.
 fn ends(tokens: &Tokens<'_>, least: u8) -> bool
-    ensures { result ≡ nat_lt (spec.ahead tokens.now) least }
+    ensures { result ≡ nat_lt (spec.binding_ahead tokens.now) least }
 {
     binds(infix_of(tokens.kind())) < least
 }
 
 /// An expression that goes on with operators of level `least` and above.
 #[cycle(expr)]
-#[tactic(auto, unfolding(crate::specs::Reading::expr))]
+#[tactic(auto, unfolding(crate::specs::Reading::read_expression))]
 pub fn expr(
     alloc: Global,
     tokens: &mut Tokens<'_>,
     depth: usize,
     least: u8,
 ) -> Result<Box<Expr>, Fault>
-    ensures read { Reads term_in (spec.expr max_level depth least tokens.old) result tokens.new }
-    ensures stands { IfErr result (λ e. StandsAt e tokens.new) }
+    ensures read { Reads term_in (spec.read_expression max_level depth least tokens.old) result tokens.new }
+    ensures stands { IfErr result (λ e. RefusesAt e tokens.new) }
 {
     if depth == 0 {
         return Err(tokens.too_deep());
@@ -48,8 +48,8 @@ fn climbing(
     depth: usize,
     least: u8,
 ) -> Result<Box<Expr>, Fault>
-    ensures read { Reads term_in (spec.climbing max_level (spec.expr max_level depth) least tokens.old) result tokens.new }
-    ensures stands { IfErr result (λ e. StandsAt e tokens.new) }
+    ensures read { Reads term_in (spec.climbing max_level (spec.read_expression max_level depth) least tokens.old) result tokens.new }
+    ensures stands { IfErr result (λ e. RefusesAt e tokens.new) }
 {
     let mut left = prefix(alloc, tokens, depth)?;
     for _turn in 0..tokens.left() {
@@ -65,15 +65,15 @@ fn climbing(
 }
 
 #[cycle(expr)]
-#[tactic(auto, unfolding(crate::specs::Reading::operation, crate::specs::Reading::chosen))]
+#[tactic(auto, unfolding(crate::specs::Reading::operation, crate::specs::Reading::choose_term))]
 fn operation(
     alloc: Global,
     tokens: &mut Tokens<'_>,
     depth: usize,
     left: Box<Expr>,
 ) -> Result<Box<Expr>, Fault>
-    ensures read { Reads term_in (spec.operation max_level (spec.expr max_level depth) (term_in left) tokens.old) result tokens.new }
-    ensures stands { IfErr result (λ e. StandsAt e tokens.new) }
+    ensures read { Reads term_in (spec.operation max_level (spec.read_expression max_level depth) (term_in left) tokens.old) result tokens.new }
+    ensures stands { IfErr result (λ e. RefusesAt e tokens.new) }
 {
     match infix_of(tokens.kind()) {
         Infix::Joins { op } => {
@@ -97,8 +97,8 @@ fn operation(
 #[cycle(expr)]
 #[tactic(auto, unfolding(crate::specs::Reading::prefix))]
 fn prefix(alloc: Global, tokens: &mut Tokens<'_>, depth: usize) -> Result<Box<Expr>, Fault>
-    ensures read { Reads term_in (spec.prefix max_level (spec.expr max_level depth) tokens.old) result tokens.new }
-    ensures stands { IfErr result (λ e. StandsAt e tokens.new) }
+    ensures read { Reads term_in (spec.prefix max_level (spec.read_expression max_level depth) tokens.old) result tokens.new }
+    ensures stands { IfErr result (λ e. RefusesAt e tokens.new) }
 {
     match start_of(tokens.kind()) {
         Start::Literal => {
@@ -117,10 +117,10 @@ fn prefix(alloc: Global, tokens: &mut Tokens<'_>, depth: usize) -> Result<Box<Ex
 }
 
 #[cycle(expr)]
-#[tactic(auto, unfolding(crate::specs::Reading::named))]
+#[tactic(auto, unfolding(crate::specs::Reading::named_term))]
 fn named(alloc: Global, tokens: &mut Tokens<'_>, depth: usize) -> Result<Box<Expr>, Fault>
-    ensures read { Reads term_in (spec.named max_level (spec.expr max_level depth) tokens.old) result tokens.new }
-    ensures stands { IfErr result (λ e. StandsAt e tokens.new) }
+    ensures read { Reads term_in (spec.named_term max_level (spec.read_expression max_level depth) tokens.old) result tokens.new }
+    ensures stands { IfErr result (λ e. RefusesAt e tokens.new) }
 {
     let name = tokens.name()?;
     match after_of(tokens.kind()) {
@@ -140,8 +140,8 @@ fn named(alloc: Global, tokens: &mut Tokens<'_>, depth: usize) -> Result<Box<Exp
 #[cycle(expr)]
 #[tactic(auto, unfolding(crate::specs::Reading::bracketed))]
 pub fn bracketed(alloc: Global, tokens: &mut Tokens<'_>, depth: usize) -> Result<Box<Expr>, Fault>
-    ensures read { Reads term_in (spec.bracketed max_level (spec.expr max_level depth) tokens.old) result tokens.new }
-    ensures stands { IfErr result (λ e. StandsAt e tokens.new) }
+    ensures read { Reads term_in (spec.bracketed max_level (spec.read_expression max_level depth) tokens.old) result tokens.new }
+    ensures stands { IfErr result (λ e. RefusesAt e tokens.new) }
 {
     let outer = tokens.level();
     tokens.enter(Fixed::LeftRound)?;
@@ -155,8 +155,8 @@ pub fn bracketed(alloc: Global, tokens: &mut Tokens<'_>, depth: usize) -> Result
 #[cycle(expr)]
 #[tactic(auto, unfolding(crate::specs::Reading::indexed))]
 pub fn indexed(alloc: Global, tokens: &mut Tokens<'_>, depth: usize) -> Result<Box<Expr>, Fault>
-    ensures read { Reads term_in (spec.indexed max_level (spec.expr max_level depth) tokens.old) result tokens.new }
-    ensures stands { IfErr result (λ e. StandsAt e tokens.new) }
+    ensures read { Reads term_in (spec.indexed max_level (spec.read_expression max_level depth) tokens.old) result tokens.new }
+    ensures stands { IfErr result (λ e. RefusesAt e tokens.new) }
 {
     let outer = tokens.level();
     tokens.enter(Fixed::LeftSquare)?;
@@ -168,10 +168,10 @@ pub fn indexed(alloc: Global, tokens: &mut Tokens<'_>, depth: usize) -> Result<B
 
 /// The arguments of a call, with their brackets.
 #[cycle(expr)]
-#[tactic(auto, unfolding(crate::specs::Reading::passed, crate::specs::Reading::arguments))]
+#[tactic(auto, unfolding(crate::specs::Reading::passed, crate::specs::Reading::read_arguments))]
 pub fn passed(alloc: Global, tokens: &mut Tokens<'_>, depth: usize) -> Result<Items<Expr>, Fault>
-    ensures read { Reads (map term) (spec.passed max_level (spec.expr max_level depth) tokens.old) result tokens.new }
-    ensures stands { IfErr result (λ e. StandsAt e tokens.new) }
+    ensures read { Reads (map term) (spec.passed max_level (spec.read_expression max_level depth) tokens.old) result tokens.new }
+    ensures stands { IfErr result (λ e. RefusesAt e tokens.new) }
 {
     let outer = tokens.level();
     tokens.enter(Fixed::LeftRound)?;
@@ -182,10 +182,10 @@ pub fn passed(alloc: Global, tokens: &mut Tokens<'_>, depth: usize) -> Result<It
 }
 
 #[cycle(expr)]
-#[tactic(auto, unfolding(crate::specs::Reading::arguments))]
+#[tactic(auto, unfolding(crate::specs::Reading::read_arguments))]
 fn arguments(alloc: Global, tokens: &mut Tokens<'_>, depth: usize) -> Result<Items<Expr>, Fault>
-    ensures read { Reads (map term) (spec.arguments max_level (spec.expr max_level depth) tokens.old) result tokens.new }
-    ensures stands { IfErr result (λ e. StandsAt e tokens.new) }
+    ensures read { Reads (map term) (spec.read_arguments max_level (spec.read_expression max_level depth) tokens.old) result tokens.new }
+    ensures stands { IfErr result (λ e. RefusesAt e tokens.new) }
 {
     if tokens.next_is(Fixed::RightRound) {
         return Ok(Items::new(alloc));
@@ -197,8 +197,8 @@ fn arguments(alloc: Global, tokens: &mut Tokens<'_>, depth: usize) -> Result<Ite
 #[cycle(expr)]
 #[tactic(auto, unfolding(crate::specs::Reading::separated, crate::specs::Reading::separated_from))]
 pub fn values(alloc: Global, tokens: &mut Tokens<'_>, depth: usize) -> Result<Items<Expr>, Fault>
-    ensures read { Reads (map term) (spec.separated (spec.value max_level (spec.expr max_level depth)) tokens.old) result tokens.new }
-    ensures stands { IfErr result (λ e. StandsAt e tokens.new) }
+    ensures read { Reads (map term) (spec.separated (spec.value max_level (spec.read_expression max_level depth)) tokens.old) result tokens.new }
+    ensures stands { IfErr result (λ e. RefusesAt e tokens.new) }
 {
     let mut found = Items::new(alloc);
     for _turn in 0..tokens.left() {
@@ -215,8 +215,8 @@ pub fn values(alloc: Global, tokens: &mut Tokens<'_>, depth: usize) -> Result<It
 #[cycle(expr)]
 #[tactic(auto, unfolding(crate::specs::Reading::value))]
 pub fn value(alloc: Global, tokens: &mut Tokens<'_>, depth: usize) -> Result<Box<Expr>, Fault>
-    ensures read { Reads term_in (spec.value max_level (spec.expr max_level depth) tokens.old) result tokens.new }
-    ensures stands { IfErr result (λ e. StandsAt e tokens.new) }
+    ensures read { Reads term_in (spec.value max_level (spec.read_expression max_level depth) tokens.old) result tokens.new }
+    ensures stands { IfErr result (λ e. RefusesAt e tokens.new) }
 {
     let outer = tokens.level();
     let found = expr(alloc, tokens, depth, 1)?;

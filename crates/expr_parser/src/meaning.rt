@@ -35,7 +35,7 @@ pub enum Behind {
 
 /// The number of a name's spelling.
 pub fn name_of(kind: Option<TokenKind>) -> Option<u32>
-    ensures { result ≡ spec.name_of kind }
+    ensures { result ≡ spec.token_name kind }
 {
     match kind {
         Some(TokenKind::Name { id }) => Some(id),
@@ -45,7 +45,7 @@ pub fn name_of(kind: Option<TokenKind>) -> Option<u32>
 
 /// The value of a number.
 pub fn number_of(kind: Option<TokenKind>) -> Option<i32>
-    ensures { result ≡ spec.number_of kind }
+    ensures { result ≡ spec.token_number kind }
 {
     match kind {
         Some(TokenKind::Number { value }) => Some(value),
@@ -54,7 +54,7 @@ pub fn number_of(kind: Option<TokenKind>) -> Option<i32>
 }
 
 fn start_mark(mark: Mark) -> Start
-    ensures { result ≡ spec.start_of (Some (TokenKind.Mark mark)) }
+    ensures { result ≡ spec.term_start (Some (TokenKind.Mark mark)) }
 {
     match mark {
         Mark::Minus => Start::Sign { op: Unary::Minus },
@@ -67,7 +67,7 @@ fn start_mark(mark: Mark) -> Start
 
 /// What the token begins where an operand is wanted.
 pub fn start_of(kind: Option<TokenKind>) -> Start
-    ensures { result ≡ spec.start_of kind }
+    ensures { result ≡ spec.term_start kind }
 {
     match kind {
         Some(TokenKind::Mark { mark }) => start_mark(mark),

@@ -3,7 +3,7 @@
 ghost use Rattle.std.specs.Prelude.{◌≡◌, IfOk, map};
 ghost use Rattle.forec_tree.specs.Terms as plain;
 ghost use Rattle.forec_tree.specs.Plain.{term};
-ghost use Rattle.forec_tree.specs.Spelling.{joined, listed};
+ghost use Rattle.forec_tree.specs.Spelling.{operator_term, listed};
 ghost use Rattle.expr_parser.specs.Boxes.{term_in};
 
 use forec_base::{Place, Unary};
@@ -72,7 +72,7 @@ pub fn unary(place: Place, op: Unary, part: Box<Expr>) -> Expr
 
 /// An operator, at its place, between its operands.
 pub fn join(place: Place, op: Operator, left: Box<Expr>, right: Box<Expr>) -> Expr
-    ensures { term result ≡ joined op place (term_in left) (term_in right) }
+    ensures { term result ≡ operator_term op place (term_in left) (term_in right) }
 {
     let what = match op {
         Operator::Or => ExprKind::Or { left, right },

@@ -111,7 +111,7 @@ impl<'t> Tokens<'t> {
     pub fn take(&mut self) -> Result<Token, Fault>
         ensures read { Reads (λ (t : Token). t) (spec.take self.old) result self.new }
         ensures unmoved { OnErr result (self.new ≡ self.old) }
-        ensures stands { IfErr result (λ e. spec.StandsAt e self.new) }
+        ensures stands { IfErr result (λ e. spec.RefusesAt e self.new) }
         ensures caused { IfErr result (λ e. e ≢ Fault.OutOfMemory) }
     {
         let Some((token, rest)) = self.rest.split_first() else {
@@ -126,7 +126,7 @@ impl<'t> Tokens<'t> {
     pub fn raise(&mut self) -> Result<Token, Fault>
         ensures read { Reads (λ (t : Token). t) (spec.raise spec.max_level self.old) result self.new }
         ensures unmoved { OnErr result (self.new ≡ self.old) }
-        ensures stands { IfErr result (λ e. spec.StandsAt e self.new) }
+        ensures stands { IfErr result (λ e. spec.RefusesAt e self.new) }
         ensures caused { IfErr result (λ e. e ≢ Fault.OutOfMemory) }
     {
         let Some((token, rest)) = self.rest.split_first() else {
@@ -147,7 +147,7 @@ impl<'t> Tokens<'t> {
     pub fn close(&mut self, fixed: Fixed) -> Result<Token, Fault>
         ensures read { Reads (λ (t : Token). t) (reading.close fixed self.old) result self.new }
         ensures unmoved { OnErr result (self.new ≡ self.old) }
-        ensures stands { IfErr result (λ e. spec.StandsAt e self.new) }
+        ensures stands { IfErr result (λ e. spec.RefusesAt e self.new) }
         ensures caused { IfErr result (λ e. e ≢ Fault.OutOfMemory) }
     {
         if self.next_is(fixed) {
@@ -162,7 +162,7 @@ impl<'t> Tokens<'t> {
     pub fn enter(&mut self, fixed: Fixed) -> Result<Token, Fault>
         ensures read { Reads (λ (t : Token). t) (reading.enter spec.max_level fixed self.old) result self.new }
         ensures unmoved { OnErr result (self.new ≡ self.old) }
-        ensures stands { IfErr result (λ e. spec.StandsAt e self.new) }
+        ensures stands { IfErr result (λ e. spec.RefusesAt e self.new) }
         ensures caused { IfErr result (λ e. e ≢ Fault.OutOfMemory) }
     {
         if self.next_is(fixed) {
@@ -177,7 +177,7 @@ impl<'t> Tokens<'t> {
     pub fn name(&mut self) -> Result<Name, Fault>
         ensures read { Reads (λ (n : Name). n) (reading.name self.old) result self.new }
         ensures unmoved { OnErr result (self.new ≡ self.old) }
-        ensures stands { IfErr result (λ e. spec.StandsAt e self.new) }
+        ensures stands { IfErr result (λ e. spec.RefusesAt e self.new) }
         ensures caused { IfErr result (λ e. e ≢ Fault.OutOfMemory) }
     {
         match name_of(self.kind()) {
@@ -193,11 +193,11 @@ impl<'t> Tokens<'t> {
     }
 
     /// Takes a number.
-    #[tactic(auto, unfolding(crate::specs::Reading::number))]
+    #[tactic(auto, unfolding(crate::specs::Reading::read_number))]
     pub fn number(&mut self) -> Result<Number, Fault>
-        ensures read { Reads (λ (n : Number). n) (reading.number self.old) result self.new }
+        ensures read { Reads (λ (n : Number). n) (reading.read_number self.old) result self.new }
         ensures unmoved { OnErr result (self.new ≡ self.old) }
-        ensures stands { IfErr result (λ e. spec.StandsAt e self.new) }
+        ensures stands { IfErr result (λ e. spec.RefusesAt e self.new) }
         ensures caused { IfErr result (λ e. e ≢ Fault.OutOfMemory) }
     {
         match number_of(self.kind()) {

@@ -11,17 +11,17 @@ use Rattle.forec_tree.specs.Terms.{Text, PlainFunction}
 use Rattle.forec_tree.specs.Findings as finding
 use Rattle.forec_tree.specs.Findings.{Finding, in_function}
 use Rattle.forec_tree.specs.Pauses.{within, find_function}
-use Rattle.forec_check.specs.AccessScan.{TextAccess, AccessScan, no_access, start, closed, accessing_instances, as_access, scan_finding, scan_all, body_access, access_step, instances_of}
-use Rattle.forec_tree.specs.Faults.{is_in, called_in, calls_of}
+use Rattle.forec_check.specs.AccessScan.{TextAccess, AccessScan, no_access, scan_start, closed, accessing_instances, as_access, scan_finding, scan_all, body_access, access_step, instances_of}
+use Rattle.forec_tree.specs.Faults.{is_in, called_in, functions_called}
 use Rattle.forec_tree.proofs.Fixed.{IsLocal}
 use Rattle.loop_check.specs.Known.{list_at}
 use Rattle.forec_check.specs.declared.walk.effects.Effect.{Effect}
 use Rattle.forec_check.specs.declared.walk.effects.Effect.TheVariants as effect
-use Rattle.forec_check.specs.Early.{effect_calls, calls_in}
+use Rattle.forec_check.specs.Early.{effect_calls, function_calls}
 use Rattle.forec_check.specs.Walk.{effects_of, finding_effects}
 use Rattle.forec_check.proofs.Recursion.{effect_calls-append, calls_is, calls_at}
 use Rattle.forec_check.proofs.Started.{in_left, in_right}
-use Rattle.forec_check.specs.AccessCounts.{Alike, capped, scan_effect, scan_effects, capped_step}
+use Rattle.forec_check.specs.AccessCounts.{AlikeUpToTwo, capped_access, scan_effect, scan_effects, capped_step}
 
 -- ---- the effects tell the same
 
@@ -73,17 +73,17 @@ effects_tell g c r (f ∷ rest) =
 
 -- ---- counts up to two
 
-pub alike_capped : (a b : AccessScan) → Alike a b → capped (as_access a) ≡ capped (as_access b)
+pub alike_capped : (a b : AccessScan) → AlikeUpToTwo a b → capped_access (as_access a) ≡ capped_access (as_access b)
 alike_capped a b h =
     ap (λ o. let n : TextAccess = record { own = o; below = min a.below 2 } in n) h.own ∙ ap (λ m. let n : TextAccess = record { own = b.own; below = m } in n) h.below
 
-below_of : (a b : TextAccess) → capped a ≡ capped b → min a.below 2 ≡ min b.below 2
+below_of : (a b : TextAccess) → capped_access a ≡ capped_access b → min a.below 2 ≡ min b.below 2
 below_of a b h = ap (λ n. n.below) h
 
-own_of : (a b : TextAccess) → capped a ≡ capped b → a.own ≡ b.own
+own_of : (a b : TextAccess) → capped_access a ≡ capped_access b → a.own ≡ b.own
 own_of a b h = ap (λ n. n.own) h
 
-pub counted : (a b : TextAccess) → capped a ≡ capped b → min (accessing_instances a) 2 ≡ min (accessing_instances b) 2
+pub counted : (a b : TextAccess) → capped_access a ≡ capped_access b → min (accessing_instances a) 2 ≡ min (accessing_instances b) 2
 counted a b h =
     let m = below_of a b h in
     ap (λ o. min (cond o (suc a.below) a.below) 2) (own_of a b h)
@@ -92,7 +92,7 @@ counted a b h =
 sum_two : (a b x y : ℕ) → min a 2 ≡ min b 2 → min x 2 ≡ min y 2 → min (a + x) 2 ≡ min (b + y) 2
 sum_two a b x y h g = omega (arith, h, g)
 
-pub closes_alike : (a b : AccessScan) → Alike a b → (xs ys : List Bool) → xs ≡ ys → Alike (closed a xs) (closed b ys)
+pub closes_alike : (a b : AccessScan) → AlikeUpToTwo a b → (xs ys : List Bool) → xs ≡ ys → AlikeUpToTwo (closed a xs) (closed b ys)
 closes_alike a b h [] [] e = h
 closes_alike a b h [] (y ∷ ys) e = absurd (let q : [] ≡ y ∷ ys = e in cc)
 closes_alike a b h (x ∷ xs) [] e = absurd (let q : x ∷ xs ≡ [] = e in cc)
@@ -109,8 +109,8 @@ here_in : (id : ℕ) → is_in id (id ∷ []) ≡ true
 here_in id = let s : (id == id) ≡ true = grind (arith, nat_tests) in ap (λ b. cond b true false) s
 
 -- one effect, with namings that are the same up to two
-effect_alike : (g : ℕ) (c d : ℕ → TextAccess) (e : Effect) (a b : AccessScan) → ((h : ℕ) → is_in h (effect_calls (e ∷ [])) ≡ true → capped (c h) ≡ capped (d h)) → Alike a b →
-    Alike (scan_effect g c a e) (scan_effect g d b e)
+effect_alike : (g : ℕ) (c d : ℕ → TextAccess) (e : Effect) (a b : AccessScan) → ((h : ℕ) → is_in h (effect_calls (e ∷ [])) ≡ true → capped_access (c h) ≡ capped_access (d h)) → AlikeUpToTwo a b →
+    AlikeUpToTwo (scan_effect g c a e) (scan_effect g d b e)
 effect_alike g c d (effect.Accesses id) a b n h = record { own = ap (λ o. o || (id == g)) h.own; below = h.below; round = h.round }
 effect_alike g c d (effect.Computes id) a b n h = h
 effect_alike g c d (effect.Runs id) a b n h =
@@ -126,8 +126,8 @@ effect_alike g c d (effect.Starts id) a b n h =
 effect_alike g c d effect.Opens a b n h = record { own = refl; below = h.below; round = ap (λ o. o ∷ a.round) h.own ∙ ap (λ r. b.own ∷ r) h.round }
 effect_alike g c d effect.Closes a b n h = closes_alike a b h a.round b.round h.round
 
-pub all_alike : (g : ℕ) (c d : ℕ → TextAccess) (es : List Effect) (a b : AccessScan) → ((h : ℕ) → is_in h (effect_calls es) ≡ true → capped (c h) ≡ capped (d h)) → Alike a b →
-    Alike (scan_effects g c a es) (scan_effects g d b es)
+pub all_alike : (g : ℕ) (c d : ℕ → TextAccess) (es : List Effect) (a b : AccessScan) → ((h : ℕ) → is_in h (effect_calls es) ≡ true → capped_access (c h) ≡ capped_access (d h)) → AlikeUpToTwo a b →
+    AlikeUpToTwo (scan_effects g c a es) (scan_effects g d b es)
 all_alike g c d [] a b n h = h
 all_alike g c d (e ∷ es) a b n h =
     all_alike g c d es (scan_effect g c a e) (scan_effect g d b e)
@@ -137,39 +137,39 @@ all_alike g c d (e ∷ es) a b n h =
     cons_calls : (e : Effect) (es : List Effect) → effect_calls (e ∷ es) ≡ effect_calls (e ∷ []) ++ effect_calls es
     cons_calls e es = effect_calls-append (e ∷ []) es
 
-pub alike_self : (a : AccessScan) → Alike a a
+pub alike_self : (a : AccessScan) → AlikeUpToTwo a a
 alike_self a = record { own = refl; below = refl; round = refl }
 
 -- ---- the step of a function
 
-step_alike : (text : Text) (g f : ℕ) (c d : ℕ → TextAccess) → ((h : ℕ) → is_in h (calls_of text f) ≡ true → capped (c h) ≡ capped (d h)) →
+step_alike : (text : Text) (g f : ℕ) (c d : ℕ → TextAccess) → ((h : ℕ) → is_in h (functions_called text f) ≡ true → capped_access (c h) ≡ capped_access (d h)) →
     capped_step text g c f ≡ capped_step text g d f
 step_alike text g f c d n = pick (find_function f text) (λ h i. n h (ap (is_in h) (sym (calls_at text f)) ∙ i))
   where
-    pick : (x : Option PlainFunction) → ((h : ℕ) → is_in h (list_at (calls_in text) x) ≡ true → capped (c h) ≡ capped (d h)) →
-        capped (body_access text g c x) ≡ capped (body_access text g d x)
+    pick : (x : Option PlainFunction) → ((h : ℕ) → is_in h (list_at (function_calls text) x) ≡ true → capped_access (c h) ≡ capped_access (d h)) →
+        capped_access (body_access text g c x) ≡ capped_access (body_access text g d x)
     pick None m = refl
     pick (Some x) m =
         let fs = in_function text x in
-        sym (ap (λ r. capped (as_access r)) (effects_tell g c start fs))
-        ∙ alike_capped (scan_effects g c start (effects_of fs)) (scan_effects g d start (effects_of fs))
-        (all_alike g c d (effects_of fs) start start (λ h i. m h (ap (is_in h) (sym (calls_is fs)) ∙ i)) (alike_self start))
-        ∙ ap (λ r. capped (as_access r)) (effects_tell g d start fs)
+        sym (ap (λ r. capped_access (as_access r)) (effects_tell g c scan_start fs))
+        ∙ alike_capped (scan_effects g c scan_start (effects_of fs)) (scan_effects g d scan_start (effects_of fs))
+        (all_alike g c d (effects_of fs) scan_start scan_start (λ h i. m h (ap (is_in h) (sym (calls_is fs)) ∙ i)) (alike_self scan_start))
+        ∙ ap (λ r. capped_access (as_access r)) (effects_tell g d scan_start fs)
 
-pub capped_local : (text : Text) (g : ℕ) → IsLocal (calls_of text) (capped_step text g)
-capped_local text g = record { agrees = λ f a b h. step_alike text g f a b (λ x i. ap capped (h x i)) }
+pub capped_local : (text : Text) (g : ℕ) → IsLocal (functions_called text) (capped_step text g)
+capped_local text g = record { agrees = λ f a b h. step_alike text g f a b (λ x i. ap capped_access (h x i)) }
 
-pub capped_twice : (n : TextAccess) → capped (capped n) ≡ capped n
+pub capped_twice : (n : TextAccess) → capped_access (capped_access n) ≡ capped_access n
 capped_twice n = let e : min (min n.below 2) 2 ≡ min n.below 2 = omega arith in ap (λ m. let q : TextAccess = record { own = n.own; below = m } in q) e
 
-pub capped_within : (text : Text) (g d f : ℕ) → within no_access (capped_step text g) d f ≡ capped (within no_access (access_step text g) d f)
+pub capped_within : (text : Text) (g d f : ℕ) → within no_access (capped_step text g) d f ≡ capped_access (within no_access (access_step text g) d f)
 unfolding within
 capped_within text g zero f = refl
 capped_within text g (suc d) f =
     step_alike text g f (within no_access (capped_step text g) d) (within no_access (access_step text g) d)
-    (λ h i. ap capped (capped_within text g d h) ∙ capped_twice (within no_access (access_step text g) d h))
+    (λ h i. ap capped_access (capped_within text g d h) ∙ capped_twice (within no_access (access_step text g) d h))
 
 -- two instances
-pub two_instances : (n : TextAccess) → nat_lt 1 (accessing_instances (capped n)) ≡ nat_lt 1 (accessing_instances n)
+pub two_instances : (n : TextAccess) → nat_lt 1 (accessing_instances (capped_access n)) ≡ nat_lt 1 (accessing_instances n)
 two_instances n =
     elim n.own as (λ o. nat_lt 1 (cond o (suc (min n.below 2)) (min n.below 2)) ≡ nat_lt 1 (cond o (suc n.below) n.below)) [ true ↦ grind (arith, nat_tests) | false ↦ grind (arith, nat_tests) ]

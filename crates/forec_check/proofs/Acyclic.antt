@@ -6,9 +6,9 @@ use Rattle.forec_tree.specs.declared.fault.Fault.{Fault}
 use Rattle.forec_tree.specs.Terms.{Text, PlainItem, IsGlobal, IsFunction, PlainFunction}
 use Rattle.forec_tree.specs.Scopes.{name_of, find_item, no_scope, with_params}
 use Rattle.forec_tree.specs.Findings.{in_params, in_statements}
-use Rattle.forec_tree.specs.Rules.{Judging, fault_if, is_long, some_returns, findings_faults}
+use Rattle.forec_tree.specs.Rules.{Judging, fault_if, is_long, some_always_returns, findings_faults}
 use Rattle.forec_tree.specs.Pauses.{find_function, all_started, callees_of, function_callees}
-use Rattle.forec_tree.specs.Faults.{Before, is_in, Leads, at_once, through, calls_of, called_in, in_function, item_named, Member, here, later, Recursive, IsEarly, text_faults, main_faults, items_faults, item_faults, function_faults, after_item, none_before}
+use Rattle.forec_tree.specs.Faults.{Before, is_in, Leads, at_once, through, functions_called, called_in, in_function, item_named, Member, here, later, Recursive, IsEarly, text_faults, main_faults, items_faults, item_faults, function_faults, after_item, none_before}
 use Rattle.loop_check.proofs.IndexLemmas.{split}
 use Rattle.forec_check.proofs.Recursion.{found_member}
 use Rattle.forec_check.proofs.Started.{nil_right, nil_left, calls_all, called_right, clean_right}
@@ -26,7 +26,7 @@ function_clean text names b f h =
     let B = fault_if (is_long names f.name.id) f.name.place 21 in
     let C = fault_if (nat_lt 16 (length f.params)) f.name.place 23 in
     let D = fault_if (nat_le 1024 b.functions) f.name.place 24 in
-    let E = fault_if (f.gives && not (some_returns f.body)) f.name.place 15 in
+    let E = fault_if (f.gives && not (some_always_returns f.body)) f.name.place 15 in
     let R = findings_faults (judge names f) (in_function text f) in
     nil_right E R (nil_right D (E ++ R) (nil_right C (D ++ (E ++ R)) (nil_right B (C ++ (D ++ (E ++ R))) (nil_right A (B ++ (C ++ (D ++ (E ++ R)))) h))))
 
@@ -49,7 +49,7 @@ pub record Caller (text : Text) (f : ℕ) : Type 0 where
   pub function : PlainFunction
   pub found : find_item f text ≡ Some (IsFunction function)
 
-caller : (text : Text) (f g : ℕ) → is_in g (calls_of text f) ≡ true → Caller text f
+caller : (text : Text) (f g : ℕ) → is_in g (functions_called text f) ≡ true → Caller text f
 caller text f g h = pick (find_item f text) refl h
   where
     pick : (i : Option PlainItem) → find_item f text ≡ i → is_in g (elim i [ None ↦ [] | Some (IsGlobal x) ↦ [] | Some (IsFunction x) ↦ called_in (in_function text x) ]) ≡ true → Caller text f
@@ -62,7 +62,7 @@ module _ (text : Text) (names : List (List ℕ)) (none : (f : Fault) → IsEarly
   clean_items = nil_right (main_faults text names) (items_faults text names none_before text) (no_members (text_faults text names) (λ f p. none f (inl p)))
 
   -- what a function calls or starts it calls in its findings
-  sub : (f g : ℕ) → is_in g (callees_of text f) ≡ true → is_in g (calls_of text f) ≡ true
+  sub : (f g : ℕ) → is_in g (callees_of text f) ≡ true → is_in g (functions_called text f) ≡ true
   sub f g h = pick (find_item f text) refl h
     where
       pick : (i : Option PlainItem) → find_item f text ≡ i → is_in g (function_callees (elim i [ None ↦ None | Some (IsGlobal x) ↦ None | Some (IsFunction x) ↦ Some x ])) ≡ true →
@@ -75,15 +75,15 @@ module _ (text : Text) (names : List (List ℕ)) (none : (f : Fault) → IsEarly
           let body = in_statements text (with_params no_scope x.params) x.body in
           rw e (called_right g params body (calls_all (judge names x) text (with_params no_scope x.params) x.body (clean_right (judge names x) params body clean) g q))
 
-  leads_sub : {f g : ℕ} → Leads (callees_of text) f g → Leads (calls_of text) f g
+  leads_sub : {f g : ℕ} → Leads (callees_of text) f g → Leads (functions_called text) f g
   leads_sub {f} {g} (at_once e) = at_once (sub f g e)
   leads_sub {f} {g} (through {g = m} e r) = through (sub f m e) (leads_sub r)
 
-  first_call : {f g : ℕ} → Leads (calls_of text) f g → Caller text f
+  first_call : {f g : ℕ} → Leads (functions_called text) f g → Caller text f
   first_call {f} {g} (at_once e) = caller text f g e
   first_call {f} {g} (through {g = m} e r) = caller text f m e
 
-  pub no_reach : (f : ℕ) → Leads (calls_of text) f f → ⊥
+  pub no_reach : (f : ℕ) → Leads (functions_called text) f f → ⊥
   no_reach f reach =
       let c = first_call reach in
       let id : c.function.name.id ≡ f = found_name f text (IsFunction c.function) c.found in
@@ -91,7 +91,7 @@ module _ (text : Text) (names : List (List ℕ)) (none : (f : Fault) → IsEarly
         function = c.function;
         stands = found_member f text (IsFunction c.function) c.found;
         first = subst (λ n. find_item n text ≡ Some (IsFunction c.function)) (sym id) c.found;
-        reaches = subst (λ n. Leads (calls_of text) n n) (sym id) reach;
+        reaches = subst (λ n. Leads (functions_called text) n n) (sym id) reach;
         is = refl;
       }))
 

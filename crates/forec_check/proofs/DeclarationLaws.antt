@@ -8,7 +8,7 @@ use Rattle.std.proofs.Math.Seq.{take-append_seam, get_or-append_seam}
 use Rattle.forec_tree.specs.declared.uses.Seen.{Seen}
 use Rattle.forec_tree.specs.Scopes.{find_last, is_among}
 use Rattle.forec_check.specs.declared.scopes.declaration.Declaration.{Declaration}
-use Rattle.forec_check.specs.Declarations.{blank, seen, last_from, last_of, Chained, pushed}
+use Rattle.forec_check.specs.Declarations.{blank_declaration, seen_name, last_from, last_of, AreDeclarationsChained, pushed_declaration}
 use Rattle.loop_check.specs.Numbered.{put_at}
 use Rattle.loop_check.proofs.IndexLemmas.{split}
 
@@ -27,38 +27,38 @@ other_id a b h = λ e. grind (arith, nat_tests)
 same_id : (a : ℕ) → (a == a) ≡ true
 same_id a = grind (arith, nat_tests)
 
-pub chained_push : (es : List Declaration) (id : ℕ) (array : Bool) → Chained es → Chained (pushed es id array)
+pub chained_push : (es : List Declaration) (id : ℕ) (array : Bool) → AreDeclarationsChained es → AreDeclarationsChained (pushed_declaration es id array)
 chained_push es id array h k l =
     let e : Declaration = record { id = id; array = array; before = last_of id es } in
     let n = length-append es (e ∷ []) in
     ⊎_elim
     (λ (q : k < length es).
-    let g = get_or_append_left es (e ∷ []) blank k q in
+    let g = get_or_append_left es (e ∷ []) blank_declaration k q in
     let t = take-append-le k es (e ∷ []) (omega arith) in
-    ap (λ x. x.before) g ∙ h k q ∙ sym (ap (λ x. last_of x.id (take k (es ++ e ∷ []))) g ∙ ap (last_of (get_or es k blank).id) t))
+    ap (λ x. x.before) g ∙ h k q ∙ sym (ap (λ x. last_of x.id (take k (es ++ e ∷ []))) g ∙ ap (last_of (get_or es k blank_declaration).id) t))
     (λ (q : length es ≤ k).
     let m : k ≡ length es = omega (arith, n, l) in
-    let g : get_or (es ++ e ∷ []) k blank ≡ e = ap (λ i. get_or (es ++ e ∷ []) i blank) m ∙ get_or-append_seam es e [] blank in
+    let g : get_or (es ++ e ∷ []) k blank_declaration ≡ e = ap (λ i. get_or (es ++ e ∷ []) i blank_declaration) m ∙ get_or-append_seam es e [] blank_declaration in
     let t : take k (es ++ e ∷ []) ≡ es = ap (λ i. take i (es ++ e ∷ [])) m ∙ take-append_seam es (e ∷ []) in
     ap (λ x. x.before) g ∙ sym (ap (λ x. last_of x.id (take k (es ++ e ∷ []))) g ∙ ap (last_of id) t))
     (cases_lt k (length es))
 
-pub chained_pop : (es : List Declaration) (e : Declaration) → Chained (es ++ e ∷ []) → Chained es
+pub chained_pop : (es : List Declaration) (e : Declaration) → AreDeclarationsChained (es ++ e ∷ []) → AreDeclarationsChained es
 chained_pop es e h k l =
     let n = length-append es (e ∷ []) in
-    let g = get_or_append_left es (e ∷ []) blank k l in
+    let g = get_or_append_left es (e ∷ []) blank_declaration k l in
     let t = take-append-le k es (e ∷ []) (omega arith) in
-    sym (ap (λ x. x.before) g) ∙ h k (omega (arith, n)) ∙ ap (λ x. last_of x.id (take k (es ++ e ∷ []))) g ∙ ap (last_of (get_or es k blank).id) t
+    sym (ap (λ x. x.before) g) ∙ h k (omega (arith, n)) ∙ ap (λ x. last_of x.id (take k (es ++ e ∷ []))) g ∙ ap (last_of (get_or es k blank_declaration).id) t
 
 -- what the last entry knows
-pub last_before : (es : List Declaration) (e : Declaration) → Chained (es ++ e ∷ []) → e.before ≡ last_of e.id es
+pub last_before : (es : List Declaration) (e : Declaration) → AreDeclarationsChained (es ++ e ∷ []) → e.before ≡ last_of e.id es
 last_before es e h =
     let n = length-append es (e ∷ []) in
-    let g = get_or-append_seam es e [] blank in
+    let g = get_or-append_seam es e [] blank_declaration in
     let t = take-append_seam es (e ∷ []) in
     sym (ap (λ x. x.before) g) ∙ h (length es) (omega (arith, n)) ∙ ap (λ x. last_of x.id (take (length es) (es ++ e ∷ []))) g ∙ ap (last_of e.id) t
 
-pub popped : (es : List Declaration) (e : Declaration) (latest : List ℕ) → Chained (es ++ e ∷ []) → ((id : ℕ) → get_or latest id 0 ≡ last_of id (es ++ e ∷ [])) → e.id < length latest →
+pub popped : (es : List Declaration) (e : Declaration) (latest : List ℕ) → AreDeclarationsChained (es ++ e ∷ []) → ((id : ℕ) → get_or latest id 0 ≡ last_of id (es ++ e ∷ [])) → e.id < length latest →
     (id : ℕ) → get_or (set latest e.id e.before) id 0 ≡ last_of id es
 popped es e latest c h l id =
     split (e.id == id)
@@ -79,7 +79,7 @@ has_place es e latest h l =
     absurd (omega (arith, q))
 
 pub latest_push : (es : List Declaration) (id : ℕ) (array : Bool) (place : ℕ) (old new : ℕ → ℕ) → place ≡ length es + 1 → ((g : ℕ) → old g ≡ last_of g es) →
-    ((g : ℕ) → new g ≡ put_at id g place (old g)) → (g : ℕ) → new g ≡ last_of g (pushed es id array)
+    ((g : ℕ) → new g ≡ put_at id g place (old g)) → (g : ℕ) → new g ≡ last_of g (pushed_declaration es id array)
 latest_push es id array place old new p h n g =
     let e : place ≡ suc (length es) = omega (arith, p) in
     n g ∙ ap (λ m. put_at id g m (old g)) e ∙ ap (put_at id g (suc (length es))) (h g) ∙ sym (last_snoc g es (record { id = id; array = array; before = last_of id es }))
@@ -97,28 +97,28 @@ last_bound id at f (x ∷ xs) h =
 
 -- the last of a name: the one before, or one of these
 pub data Last (id at f : ℕ) (found : Option Seen) (ys : List Declaration) : Type 0 where
-  none_here : last_from id at f ys ≡ f → find_last id found (map seen ys) ≡ found → is_among id (map seen ys) ≡ false → Last id at f found ys
-  one_here : (k : ℕ) → last_from id at f ys ≡ suc (at + k) → k < length ys → find_last id found (map seen ys) ≡ Some (seen (get_or ys k blank)) →
-      is_among id (map seen ys) ≡ true → Last id at f found ys
+  none_here : last_from id at f ys ≡ f → find_last id found (map seen_name ys) ≡ found → is_among id (map seen_name ys) ≡ false → Last id at f found ys
+  one_here : (k : ℕ) → last_from id at f ys ≡ suc (at + k) → k < length ys → find_last id found (map seen_name ys) ≡ Some (seen_name (get_or ys k blank_declaration)) →
+      is_among id (map seen_name ys) ≡ true → Last id at f found ys
 
 pub last_is : (id at f : ℕ) (found : Option Seen) (ys : List Declaration) → Last id at f found ys
 last_is id at f found [] = none_here refl refl refl
 last_is id at f found (y ∷ ys) =
-    let hit = last_is id (suc at) (suc at) (Some (seen y)) ys in
+    let hit = last_is id (suc at) (suc at) (Some (seen_name y)) ys in
     let miss = last_is id (suc at) f found ys in
     split (y.id == id)
     (λ e.
     let l = ap (λ b. last_from id (suc at) (cond b (suc at) f) ys) e in
-    let d = ap (λ b. find_last id (cond b (Some (seen y)) found) (map seen ys)) e in
-    let a = ap (λ b. cond b true (is_among id (map seen ys))) e in
+    let d = ap (λ b. find_last id (cond b (Some (seen_name y)) found) (map seen_name ys)) e in
+    let a = ap (λ b. cond b true (is_among id (map seen_name ys))) e in
     elim hit [
       | none_here p q r ↦ one_here 0 (l ∙ p ∙ omega arith) (omega arith) (d ∙ q) a
       | one_here k p s q r ↦ one_here (suc k) (l ∙ p ∙ omega arith) (omega (arith, s)) (d ∙ q) a
     ])
     (λ e.
     let l = ap (λ b. last_from id (suc at) (cond b (suc at) f) ys) e in
-    let d = ap (λ b. find_last id (cond b (Some (seen y)) found) (map seen ys)) e in
-    let a = ap (λ b. cond b true (is_among id (map seen ys))) e in
+    let d = ap (λ b. find_last id (cond b (Some (seen_name y)) found) (map seen_name ys)) e in
+    let a = ap (λ b. cond b true (is_among id (map seen_name ys))) e in
     elim miss [
       | none_here p q r ↦ none_here (l ∙ p) (d ∙ q) (a ∙ r)
       | one_here k p s q r ↦ one_here (suc k) (l ∙ p ∙ omega arith) (omega (arith, s)) (d ∙ q) (a ∙ r)
@@ -132,12 +132,12 @@ split_drop (suc b) zero es h = absurd (omega arith)
 split_drop (suc b) (suc s) [] h = refl
 split_drop (suc b) (suc s) (e ∷ es) h = split_drop b s es (omega arith)
 
-map_append : (xs ys : List Declaration) → map seen (xs ++ ys) ≡ map seen xs ++ map seen ys
+map_append : (xs ys : List Declaration) → map seen_name (xs ++ ys) ≡ map seen_name xs ++ map seen_name ys
 map_append [] ys = refl
-map_append (x ∷ xs) ys = ap (λ r. seen x ∷ r) (map_append xs ys)
+map_append (x ∷ xs) ys = ap (λ r. seen_name x ∷ r) (map_append xs ys)
 
-pub whole : (b s : ℕ) (es : List Declaration) → b ≤ s → map seen (drop b (take s es)) ++ map seen (drop s es) ≡ map seen (drop b es)
-whole b s es h = sym (ap (map seen) (split_drop b s es h) ∙ map_append (drop b (take s es)) (drop s es))
+pub whole : (b s : ℕ) (es : List Declaration) → b ≤ s → map seen_name (drop b (take s es)) ++ map seen_name (drop s es) ≡ map seen_name (drop b es)
+whole b s es h = sym (ap (map seen_name) (split_drop b s es h) ∙ map_append (drop b (take s es)) (drop s es))
 
 last_behind : (id b : ℕ) (es : List Declaration) → b ≤ length es → last_of id es ≡ last_from id b (last_of id (take b es)) (drop b es)
 last_behind id b es h =
@@ -147,19 +147,19 @@ last_behind id b es h =
 before_bound : (id b : ℕ) (es : List Declaration) → b ≤ length es → last_of id (take b es) ≤ b
 before_bound id b es h = let l = length-take b es in let r = last_bound id 0 0 (take b es) (omega arith) in omega (arith, l, r)
 
-get_drop : (b k : ℕ) (es : List Declaration) → get_or (drop b es) k blank ≡ get_or es (b + k) blank
-get_drop zero k es = let n : k ≡ 0 + k = omega arith in ap (λ m. get_or es m blank) n
+get_drop : (b k : ℕ) (es : List Declaration) → get_or (drop b es) k blank_declaration ≡ get_or es (b + k) blank_declaration
+get_drop zero k es = let n : k ≡ 0 + k = omega arith in ap (λ m. get_or es m blank_declaration) n
 get_drop (suc b) k [] = nothing k (suc b + k)
   where
-    nothing : (i j : ℕ) → get_or [] i blank ≡ get_or [] j blank
+    nothing : (i j : ℕ) → get_or [] i blank_declaration ≡ get_or [] j blank_declaration
     nothing i j = none i ∙ sym (none j)
       where
-        none : (i : ℕ) → get_or [] i blank ≡ blank
+        none : (i : ℕ) → get_or [] i blank_declaration ≡ blank_declaration
         none zero = refl
         none (suc i) = refl
-get_drop (suc b) k (e ∷ es) = let n : suc b + k ≡ suc (b + k) = omega arith in get_drop b k es ∙ ap (λ m. get_or (e ∷ es) m blank) (sym n)
+get_drop (suc b) k (e ∷ es) = let n : suc b + k ≡ suc (b + k) = omega arith in get_drop b k es ∙ ap (λ m. get_or (e ∷ es) m blank_declaration) (sym n)
 
-pub not_found : (id b : ℕ) (es : List Declaration) → b ≤ length es → last_of id es ≤ b → find_last id None (map seen (drop b es)) ≡ None
+pub not_found : (id b : ℕ) (es : List Declaration) → b ≤ length es → last_of id es ≤ b → find_last id None (map seen_name (drop b es)) ≡ None
 not_found id b es h l =
     let e = last_behind id b es h in
     elim (last_is id b (last_of id (take b es)) None (drop b es)) [
@@ -167,7 +167,7 @@ not_found id b es h l =
       | one_here k p s q r ↦ absurd (omega (arith, e, p, l))
     ]
 
-pub found_at : (id b : ℕ) (es : List Declaration) → b ≤ length es → b < last_of id es → find_last id None (map seen (drop b es)) ≡ Some (seen (get_or es (last_of id es - 1) blank))
+pub found_at : (id b : ℕ) (es : List Declaration) → b ≤ length es → b < last_of id es → find_last id None (map seen_name (drop b es)) ≡ Some (seen_name (get_or es (last_of id es - 1) blank_declaration))
 found_at id b es h l =
     let e = last_behind id b es h in
     let f = before_bound id b es h in
@@ -175,10 +175,10 @@ found_at id b es h l =
       | none_here p q r ↦ absurd (omega (arith, e, p, l, f))
       | one_here k p s q r ↦
           let n : b + k ≡ last_of id es - 1 = omega (arith, e, p) in
-          q ∙ ap (λ x. Some (seen x)) (get_drop b k es ∙ ap (λ m. get_or es m blank) n)
+          q ∙ ap (λ x. Some (seen_name x)) (get_drop b k es ∙ ap (λ m. get_or es m blank_declaration) n)
     ]
 
-pub here_is : (id b : ℕ) (es : List Declaration) → b ≤ length es → nat_lt b (last_of id es) ≡ is_among id (map seen (drop b es))
+pub here_is : (id b : ℕ) (es : List Declaration) → b ≤ length es → nat_lt b (last_of id es) ≡ is_among id (map seen_name (drop b es))
 here_is id b es h =
     let e = last_behind id b es h in
     let f = before_bound id b es h in

@@ -7,7 +7,7 @@ use Rattle.forec_tree.specs.declared.fault.Fault.{Fault}
 use Rattle.forec_tree.specs.Terms.{Text, PlainItem, PlainGlobal, IsGlobal, IsFunction}
 use Rattle.forec_tree.specs.Rules.{fault_if, is_input, is_long, length_faults, too_many}
 use Rattle.forec_tree.specs.Faults.{Before, item_named, combine_faults, output_count, runs_over, after_item, none_before, item_faults, items_faults, main_faults}
-use Rattle.forec_check.specs.Checked.{outputs_of}
+use Rattle.forec_check.specs.Checked.{count_outputs}
 use Rattle.forec_check.specs.Faultless.{Faultless}
 use Rattle.forec_check.proofs.Acyclic.{no_members}
 use Rattle.forec_check.proofs.Started.{nil_right, nil_left}
@@ -36,7 +36,7 @@ module _ (text : Text) (names : List (List ℕ)) where
       not_over b.outputs (output_count g) (or_second (is_input g.kind && nat_le 64 b.inputs) _ extra) l
 
   -- so are those of the items behind some
-  outputs_few : (b : Before) (xs : List PlainItem) → items_faults text names b xs ≡ [] → b.outputs ≤ 64 → b.outputs + outputs_of xs ≤ 64
+  outputs_few : (b : Before) (xs : List PlainItem) → items_faults text names b xs ≡ [] → b.outputs ≤ 64 → b.outputs + count_outputs xs ≤ 64
   outputs_few b [] h l = omega (arith, l)
   outputs_few b (IsFunction f ∷ xs) h l =
       let r = outputs_few (after_item b (IsFunction f)) xs (nil_right (item_faults text names b (IsFunction f)) (items_faults text names (after_item b (IsFunction f)) xs) h) l in
@@ -46,7 +46,7 @@ module _ (text : Text) (names : List (List ℕ)) where
       let r = outputs_few (after_item b (IsGlobal g)) xs (nil_right (item_faults text names b (IsGlobal g)) (items_faults text names (after_item b (IsGlobal g)) xs) h) (within b g own l) in
       omega (arith, r)
 
-  pub few_outputs : Faultless text names → outputs_of text ≤ 64
+  pub few_outputs : Faultless text names → count_outputs text ≤ 64
   few_outputs faultless =
       let none = no_members (main_faults text names ++ items_faults text names none_before text) (λ f m. faultless f (inl (inl m))) in
       let r = outputs_few none_before text (nil_right (main_faults text names) (items_faults text names none_before text) none) (omega arith) in

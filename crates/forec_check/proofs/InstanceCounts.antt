@@ -2,7 +2,7 @@
 use Rattle.std.proofs.Common.{ℕ, zero, suc, ◌+◌, ◌-◌, ◌^◌, ◌≡◌, ◌∙◌, ◌==◌, min, ap, refl, true, cond, Option, Some, None, List, [], ◌∷◌, ◌++◌, length, arith}
 use Rattle.std.proofs.lemmas.Bool.Decides.{nat_tests}
 use Rattle.forec_tree.specs.Terms.{Statement, Declare, Nothing, Group, Assign, Invoke, If, While, For, Pause, Par, Abort, Return, Statements, no_statements, more_statements, Perhaps, absent, present, Branches, no_branches, by_call, by_group, Text, PlainFunction}
-use Rattle.forec_tree.specs.Pauses.{within, find_function, started, all_started, perhaps_started, branches_started, function_callees, callees_of}
+use Rattle.forec_tree.specs.Pauses.{within, find_function, started_names, all_started, perhaps_started, branches_started, function_callees, callees_of}
 use Rattle.forec_tree.specs.Threads.{below, below_all, below_perhaps, below_branches, body_below, below_step, instances}
 use Rattle.forec_tree.specs.Faults.{is_in, Leads}
 use Rattle.forec_tree.proofs.CappedSums.{below_all_capped}
@@ -33,21 +33,21 @@ module _ (a b : ℕ → ℕ) where
   on_right xs ys h g i = h g (in_right g xs ys i)
 
   mutual
-    below_same : (s : Statement) → Agree a b (started s) → below a s ≡ below b s
+    below_same : (s : Statement) → Agree a b (started_names s) → below a s ≡ below b s
     below_same (Nothing at) h = refl
     below_same (Group at body) h = all_same body h
     below_same (Declare at locals) h = refl
     below_same (Assign at target op value) h = refl
     below_same (Invoke at name args) h = h name.id (here_in name.id [])
     below_same (If at test x y) h =
-        ap (λ n. n + below_perhaps a y) (below_same x (on_left (started x) (perhaps_started y) h))
-        ∙ ap (λ n. below b x + n) (perhaps_same y (on_right (started x) (perhaps_started y) h))
+        ap (λ n. n + below_perhaps a y) (below_same x (on_left (started_names x) (perhaps_started y) h))
+        ∙ ap (λ n. below b x + n) (perhaps_same y (on_right (started_names x) (perhaps_started y) h))
     below_same (While at test bound body) h = below_same body h
     below_same (For at start test step bound body) h =
-        let rest = on_right (perhaps_started start) (perhaps_started step ++ started body) h in
-        ap (λ n. n + (below_perhaps a step + below a body)) (perhaps_same start (on_left (perhaps_started start) (perhaps_started step ++ started body) h))
-        ∙ (ap (λ n. below_perhaps b start + (n + below a body)) (perhaps_same step (on_left (perhaps_started step) (started body) rest))
-        ∙ ap (λ n. below_perhaps b start + (below_perhaps b step + n)) (below_same body (on_right (perhaps_started step) (started body) rest)))
+        let rest = on_right (perhaps_started start) (perhaps_started step ++ started_names body) h in
+        ap (λ n. n + (below_perhaps a step + below a body)) (perhaps_same start (on_left (perhaps_started start) (perhaps_started step ++ started_names body) h))
+        ∙ (ap (λ n. below_perhaps b start + (n + below a body)) (perhaps_same step (on_left (perhaps_started step) (started_names body) rest))
+        ∙ ap (λ n. below_perhaps b start + (below_perhaps b step + n)) (below_same body (on_right (perhaps_started step) (started_names body) rest)))
     below_same (Pause at) h = refl
     below_same (Par at bs) h = branches_same bs h
     below_same (Abort at weak immediate test body) h = all_same body h
@@ -56,8 +56,8 @@ module _ (a b : ℕ → ℕ) where
     all_same : (s : Statements) → Agree a b (all_started s) → below_all a s ≡ below_all b s
     all_same no_statements h = refl
     all_same (more_statements x rest) h =
-        ap (λ n. n + below_all a rest) (below_same x (on_left (started x) (all_started rest) h))
-        ∙ ap (λ n. below b x + n) (all_same rest (on_right (started x) (all_started rest) h))
+        ap (λ n. n + below_all a rest) (below_same x (on_left (started_names x) (all_started rest) h))
+        ∙ ap (λ n. below b x + n) (all_same rest (on_right (started_names x) (all_started rest) h))
 
     perhaps_same : (s : Perhaps) → Agree a b (perhaps_started s) → below_perhaps a s ≡ below_perhaps b s
     perhaps_same absent h = refl

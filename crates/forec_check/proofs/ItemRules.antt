@@ -16,7 +16,7 @@ use Rattle.forec_tree.specs.declared.tree.Combine.{Combine}
 use Rattle.forec_tree.specs.Terms.{Text, PlainGlobal, PlainFunction, PlainItem, IsGlobal, IsFunction, Statement}
 use Rattle.forec_tree.specs.Scopes.{Scope, no_scope, with_name, with_params, is_among}
 use Rattle.forec_tree.specs.Findings.{Finding, Declares, in_params, in_statements}
-use Rattle.forec_tree.specs.Rules.{Judging, fault_if, length_faults, too_many, is_long, some_returns, findings_faults, is_input, is_none}
+use Rattle.forec_tree.specs.Rules.{Judging, fault_if, length_faults, too_many, is_long, some_always_returns, findings_faults, is_input, is_none}
 use Rattle.forec_tree.specs.Faults.{Before, item_named, combine_faults, global_faults, function_faults, in_function, item_faults, items_faults, text_faults, main_faults, start_name, main_place, none_before, after_item, one_if, output_count}
 use Rattle.forec_check.specs.Least.{least_from, judged}
 use Rattle.forec_check.proofs.LeastLaws.{least-append}
@@ -46,7 +46,7 @@ pub head_is : (text : Text) (names : List (List ℕ)) (at : ℕ) (c : ItemCounts
     k2 ≡ least_from k1 (fault_if (is_long names f.name.id) f.name.place 21) →
     k3 ≡ least_from k2 (fault_if (nat_lt 16 (length f.params)) f.name.place 23) →
     k4 ≡ least_from k3 (fault_if (nat_le 1024 c.functions) f.name.place 24) →
-    k5 ≡ least_from k4 (fault_if (f.gives && not (some_returns f.body)) f.name.place 15) →
+    k5 ≡ least_from k4 (fault_if (f.gives && not (some_always_returns f.body)) f.name.place 15) →
     k5 ≡ least_from k0 (head_faults text names (before_of text at c) f)
 head_is text names at c f k0 k1 k2 k3 k4 k5 e1 e2 e3 e4 e5 = rw (least-append, least-append, least-append, least-append) (cc)
 
@@ -63,7 +63,7 @@ function_is text names b f k0 k1 s new h e w =
     let B = fault_if (is_long names f.name.id) f.name.place 21 in
     let C = fault_if (nat_lt 16 (length f.params)) f.name.place 23 in
     let D = fault_if (nat_le 1024 b.functions) f.name.place 24 in
-    let E = fault_if (f.gives && not (some_returns f.body)) f.name.place 15 in
+    let E = fault_if (f.gives && not (some_always_returns f.body)) f.name.place 15 in
     let R = findings_faults (judging names f.gives) (in_function text f) in
     append_assoc A (B ++ (C ++ (D ++ E))) R
     ∙ ap (λ x. A ++ x) (append_assoc B (C ++ (D ++ E)) R ∙ ap (λ x. B ++ x) (append_assoc C (D ++ E) R ∙ ap (λ x. C ++ x) (append_assoc D E R))))

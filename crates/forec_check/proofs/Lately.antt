@@ -11,8 +11,8 @@ use Rattle.forec_tree.specs.ThreadTree.{thread_tree, count_naming}
 use Rattle.forec_check.specs.Least.{least_from}
 use Rattle.forec_check.proofs.LeastLaws.{least-append}
 use Rattle.forec_check.specs.Loops.{item_loops, all_loops, loops_faults}
-use Rattle.forec_check.specs.Early.{Kept}
-use Rattle.forec_check.specs.AccessScan.{instances_of, namings}
+use Rattle.forec_check.specs.Early.{IsLeastOrNone}
+use Rattle.forec_check.specs.AccessScan.{instances_of, program_namings}
 use Rattle.forec_check.proofs.AccessLaws.{tree_namings}
 use Rattle.forec_check.specs.AccessCounts.{access_fault, access_faults}
 use Rattle.forec_check.proofs.LoopLemmas.{loops_append}
@@ -34,7 +34,7 @@ module _ (text : Text) (names : List (List ℕ)) where
   item_split i rest = loops_append text (item_loops i) (all_loops rest)
 
   -- where no early rule is broken the walk tells what the tree of threads has
-  same_namings : text_faults text names ≡ [] → (id : ℕ) → namings text names id ≡ of_tree.namings text names id
+  same_namings : text_faults text names ≡ [] → (id : ℕ) → program_namings text names id ≡ of_tree.namings text names id
   same_namings h id = pick (start_name names text)
     where
       pick : (o : Option ℕ) → ◌≡◌ {A = ℕ} (elim o [ None ↦ 0 | Some first ↦ instances_of text id first ]) (elim o [ None ↦ 0 | Some start ↦ count_naming id (thread_tree text start) ])
@@ -44,7 +44,7 @@ module _ (text : Text) (names : List (List ℕ)) where
   abbrev AreSame : Type 0
   AreSame = (g : PlainGlobal) → access_fault text names (IsGlobal g) ≡ late_item_faults text names (IsGlobal g)
 
-  are_same : Kept None (IsEarly text names) → AreSame
+  are_same : IsLeastOrNone None (IsEarly text names) → AreSame
   are_same none g = ap (λ n. fault_if (is_plain g.kind && nat_lt 1 n) g.name.place 10) (same_namings (no_member (text_faults text names) (λ f p. none f (inl p))) g.name.id)
 
   -- the faults of one item, by its sort
@@ -85,7 +85,7 @@ module _ (text : Text) (names : List (List ℕ)) where
       (λ q. ⊎_elim (λ a. inl a) (λ b. inr (along f _ _ (sym (item_split (IsFunction h) rest)) (on_right f own (loops rest) b))) (more q))
       (either_of f item (late_faults text names rest) p)
 
-  pub late_kept : (k : Option Fault) → Kept None (IsEarly text names) → k ≡ least_from None (access_faults text names text ++ loops text) → Kept k (IsFault text names)
+  pub late_kept : (k : Option Fault) → IsLeastOrNone None (IsEarly text names) → k ≡ least_from None (access_faults text names text ++ loops text) → IsLeastOrNone k (IsFault text names)
   late_kept k none e =
       same_kept k (λ f. Member f (access_faults text names text ++ loops text)) (IsFault text names)
       (λ f p. inr (none, to_late (are_same none) text f (either_of f (access_faults text names text) (loops text) p)))
@@ -96,7 +96,7 @@ module _ (text : Text) (names : List (List ℕ)) where
       (kept_list (access_faults text names text ++ loops text) k e)
 
   -- a broken early rule hides the late ones
-  pub early_kept : (k : Option Fault) → is_some k ≡ true → Kept k (IsEarly text names) → Kept k (IsFault text names)
+  pub early_kept : (k : Option Fault) → is_some k ≡ true → IsLeastOrNone k (IsEarly text names) → IsLeastOrNone k (IsFault text names)
   early_kept None s h = absurd (let q : false ≡ true = s in cc)
   early_kept (Some m) s h =
       record {
@@ -104,7 +104,7 @@ module _ (text : Text) (names : List (List ℕ)) where
         least = λ f p. ⊎_elim (λ a. h.least f a) (λ b. absurd (b.0 m h.among)) p;
       }
 
-  pub none_early : (k : Option Fault) → is_some k ≡ false → Kept k (IsEarly text names) → Kept None (IsEarly text names)
+  pub none_early : (k : Option Fault) → is_some k ≡ false → IsLeastOrNone k (IsEarly text names) → IsLeastOrNone None (IsEarly text names)
   none_early None s h = h
   none_early (Some m) s h = absurd (let q : true ≡ false = s in cc)
 

@@ -5,7 +5,7 @@ use Rattle.forec_tree.specs.declared.tree.Name.{Name}
 use Rattle.forec_tree.specs.declared.tree.Number.{Number}
 use Rattle.forec_tree.specs.declared.uses.How.TheVariants.{Starts}
 use Rattle.forec_tree.specs.Terms.{Term, Num, Read, Element, Un, Bin, And, Or, Choose, Call, Terms, no_terms, more_terms, count_terms, Declared, Statement, Declare, Nothing, Group, Assign, Invoke, If, While, For, Pause, Par, Abort, Return, Statements, no_statements, more_statements, Perhaps, absent, present, Branches, no_branches, by_call, by_group, Text, PlainFunction}
-use Rattle.forec_tree.specs.Scopes.{Scope, no_scope, entered, with_name, with_params, is_array, after, after_perhaps}
+use Rattle.forec_tree.specs.Scopes.{Scope, no_scope, inner_scope, with_name, with_params, is_array, after, after_perhaps}
 use Rattle.forec_tree.specs.Findings.{Finding, Use, Declares, Bound, Loop, Synchronous, Gives, Opens, Closes, use_at, in_term, in_terms, in_optional, in_target, in_local, in_locals, in_bound, in_statement, in_statements, in_perhaps, in_branches, in_params, in_function}
 use Rattle.forec_tree.specs.Rules.{fault_if, endless, loop_place, loop_faults}
 use Rattle.forec_tree.specs.Faults.{Member, here, later}
@@ -142,24 +142,24 @@ module _ (text : Text) where
   mutual
     finds : (s : Scope) (a : Statement) → Finds (in_statement text s a) (loops_in a)
     finds s (Nothing at) = same_as [] [] refl
-    finds s (Group at body) = finds_all (entered s) body
+    finds s (Group at body) = finds_all (inner_scope s) body
     finds s (Declare at locals) = finds_none (in_locals text s locals) (none_locals s locals)
     finds s (Assign at target op value) =
         finds_none (in_target text s target ++ in_term text s value) (none_both (in_target text s target) (in_term text s value) (none_target s target.name target.index) (none_term s value))
     finds s (Invoke at name args) = finds_none (in_terms text s args) (none_terms s args)
     finds s (If at test a b) =
-        finds_behind (in_term text s test) (in_statement text (entered s) a ++ in_perhaps text (entered s) b) (loops_in a ++ loops_in_perhaps b) (none_term s test)
-        (finds_both (in_statement text (entered s) a) (in_perhaps text (entered s) b) (loops_in a) (loops_in_perhaps b) (finds (entered s) a) (finds_perhaps (entered s) b))
+        finds_behind (in_term text s test) (in_statement text (inner_scope s) a ++ in_perhaps text (inner_scope s) b) (loops_in a ++ loops_in_perhaps b) (none_term s test)
+        (finds_both (in_statement text (inner_scope s) a) (in_perhaps text (inner_scope s) b) (loops_in a) (loops_in_perhaps b) (finds (inner_scope s) a) (finds_perhaps (inner_scope s) b))
     finds s (While at test bound body) =
-        let rest = in_term text s test ++ in_statement text (entered s) body in
+        let rest = in_term text s test ++ in_statement text (inner_scope s) body in
         finds_loop (While at test bound body) (in_bound bound ++ rest) (loops_in body)
         (finds_behind (in_bound bound) rest (loops_in body) (none_bound bound)
-        (finds_behind (in_term text s test) (in_statement text (entered s) body) (loops_in body) (none_term s test) (finds (entered s) body)))
+        (finds_behind (in_term text s test) (in_statement text (inner_scope s) body) (loops_in body) (none_term s test) (finds (inner_scope s) body)))
     finds s (For at start test step bound body) =
-        let inside = after_perhaps (entered s) start in
-        let last = entered (after_perhaps inside step) in
+        let inside = after_perhaps (inner_scope s) start in
+        let last = inner_scope (after_perhaps inside step) in
         let w = For at start test step bound body in
-        let p = in_perhaps text (entered s) start in
+        let p = in_perhaps text (inner_scope s) start in
         let q = in_optional text inside test in
         let r = in_perhaps text inside step in
         let b = in_statement text last body in
@@ -169,13 +169,13 @@ module _ (text : Text) where
         same_then (loop_faults text (Loop w ∷ in_bound bound ++ (p ++ (q ++ (r ++ b))))) (loops_faults text ((ls ++ (ms ++ ns)) ++ w ∷ [])) (loops_faults text (ls ++ (ms ++ (ns ++ w ∷ []))))
         (finds_loop w (in_bound bound ++ (p ++ (q ++ (r ++ b)))) (ls ++ (ms ++ ns))
         (finds_behind (in_bound bound) (p ++ (q ++ (r ++ b))) (ls ++ (ms ++ ns)) (none_bound bound)
-        (finds_both p (q ++ (r ++ b)) ls (ms ++ ns) (finds_perhaps (entered s) start)
+        (finds_both p (q ++ (r ++ b)) ls (ms ++ ns) (finds_perhaps (inner_scope s) start)
         (finds_behind q (r ++ b) (ms ++ ns) (none_optional inside test) (finds_both r b ms ns (finds_perhaps inside step) (finds last body))))))
         (same_as _ _ (ap (loops_faults text) (append_assoc ls (ms ++ ns) (w ∷ []) ∙ ap (λ x. ls ++ x) (append_assoc ms ns (w ∷ [])))))
     finds s (Pause at) = same_as [] [] refl
     finds s (Par at bs) = finds_branches s bs
     finds s (Abort at weak immediate test body) =
-        finds_behind (in_term text s test) (in_statements text (entered s) body) (loops_in_all body) (none_term s test) (finds_all (entered s) body)
+        finds_behind (in_term text s test) (in_statements text (inner_scope s) body) (loops_in_all body) (none_term s test) (finds_all (inner_scope s) body)
     finds s (Return at value) = finds_none (in_term text s value) (none_term s value)
 
     finds_all : (s : Scope) (a : Statements) → Finds (in_statements text s a) (loops_in_all a)

@@ -9,22 +9,22 @@ use Rattle.forec_tree.specs.declared.token.Token.{Token}
 use Rattle.forec_tree.specs.declared.tree.Name.{Name}
 use Rattle.forec_tree.specs.declared.tree.Combine.{Combine}
 use Rattle.forec_tree.specs.declared.tree.GlobalKind.{GlobalKind}
-use Rattle.forec_tree.specs.Terms.{Term, Num, Declared, Written, Statement, Perhaps, PlainGlobal, PlainItem, IsGlobal, Text}
+use Rattle.forec_tree.specs.Terms.{Term, Num, Declared, PlainTarget, Statement, Perhaps, PlainGlobal, PlainItem, IsGlobal, Text}
 use Rattle.forec_tree.specs.Faults.{Member, here, later}
 use Rattle.forec_tree.specs.Parts.{in_order, Launch, launched, Head}
 use Rattle.forec_tree.specs.Spelling as sp
-use Rattle.forec_tree.specs.Spelling.{Spelt, IsName, joined, listed, tokens, Spells, Whole, Brackets, Indexes, Passes, Arguments}
+use Rattle.forec_tree.specs.Spelling.{Spelt, IsNameToken, operator_term, listed, tokens, Spells, Whole, Brackets, SpellsIndex, SpellsArguments, SpellsExpressions}
 use Rattle.forec_tree.specs.SpelledStatements as st
-use Rattle.forec_tree.specs.SpelledStatements.{Separated, Targets, Simple, Lengths, Declares, Bounds, ForStarts, Tests, ForSteps, HeadParts, Heads, Optional, Says, Block, Lists, Forks, Starting, Launches}
+use Rattle.forec_tree.specs.SpelledStatements.{Separated, Targets, Simple, Lengths, Declares, SpellsBound, ForStarts, Tests, ForSteps, HeadParts, Heads, Optional, SpellsStatement, Block, SpellsStatements, SpellsBranches, Starting, SpellsLaunches}
 use Rattle.forec_tree.specs.SpelledPrograms as pr
-use Rattle.forec_tree.specs.SpelledPrograms.{Signed, Named, Scalar, SharedVariable, Table, Sharing, Combines, Param, Params, Parameters, Introduces, Programs, IsSpelled}
+use Rattle.forec_tree.specs.SpelledPrograms.{Signed, Named, Scalar, SharedVariable, Table, Sharing, SpellsCombine, Param, Params, Parameters, Introduces, Programs, IsSpelled}
 use Rattle.forec_tree.specs.LexedText.{IsNumbered, AreDistinct}
 use Rattle.forec_check.specs.Faultless.{Distinct, term_names, terms_names, optional_names, locals_names, statement_names, statements_names, perhaps_names, branches_names, combine_names, item_names, text_names, IdsBelow}
 
 module _ (n : ℕ) where
   -- a token that is a name has a number below n
   abbrev IsLow : Token → Type 0
-  IsLow t = (id : ℕ) → IsName id t → id < n
+  IsLow t = (id : ℕ) → IsNameToken id t → id < n
 
   abbrev AreLow : List Spelt → Type 0
   AreLow [] = Unit {0}
@@ -48,7 +48,7 @@ module _ (n : ℕ) where
 
   -- ---- expressions
 
-  joined_names : (op : Operator) (place : Place) (a b : Term) → AreBelow (term_names a ++ term_names b) → AreBelow (term_names (joined op place a b))
+  joined_names : (op : Operator) (place : Place) (a b : Term) → AreBelow (term_names a ++ term_names b) → AreBelow (term_names (operator_term op place a b))
   joined_names oper.Or place a b h = h
   joined_names oper.And place a b h = h
   joined_names (oper.Computes op) place a b h = h
@@ -74,25 +74,25 @@ module _ (n : ℕ) where
     of_bracketed : {v : ℕ} {e : Term} {ls : List Spelt} → Brackets e v ls → AreLow ls → AreBelow (term_names e)
     of_bracketed (sp.brackets right {ls = ls} is s also) h = of_whole s (front ls _ h.1)
 
-    of_index : {v : ℕ} {e : Term} {ls : List Spelt} → Indexes e v ls → AreLow ls → AreBelow (term_names e)
+    of_index : {v : ℕ} {e : Term} {ls : List Spelt} → SpellsIndex e v ls → AreLow ls → AreBelow (term_names e)
     of_index (sp.indexes right {ls = ls} is s also) h = of_whole s (front ls _ h.1)
 
-    of_passed : {v : ℕ} {es : List Term} {ls : List Spelt} → Passes es v ls → AreLow ls → AreBelow (terms_names (listed es))
+    of_passed : {v : ℕ} {es : List Term} {ls : List Spelt} → SpellsArguments es v ls → AreLow ls → AreBelow (terms_names (listed es))
     of_passed (sp.passes_none is also) h = tt
     of_passed (sp.passes right {ls = ls} is s also) h = of_arguments s (front ls _ h.1)
 
-    of_arguments : {v : ℕ} {es : List Term} {ls : List Spelt} → Arguments es v ls → AreLow ls → AreBelow (terms_names (listed es))
+    of_arguments : {v : ℕ} {es : List Term} {ls : List Spelt} → SpellsExpressions es v ls → AreLow ls → AreBelow (terms_names (listed es))
     of_arguments (sp.one {arg = e} s) h = both (term_names e) [] (of_whole s h) tt
     of_arguments (sp.more {arg = e} {args = es} comma {ls = ls} s is r) h =
         both (term_names e) (terms_names (listed es)) (of_whole s (front ls _ h)) (of_arguments r (behind ls _ h).1)
 
   -- ---- simple statements
 
-  of_target : {v : ℕ} {target : Written} {ls : List Spelt} → Targets target v ls → AreLow ls → AreBelow (target.name ∷ optional_names target.index)
+  of_target : {v : ℕ} {target : PlainTarget} {ls : List Spelt} → Targets target v ls → AreLow ls → AreBelow (target.name ∷ optional_names target.index)
   of_target (st.scalar id is) h = (h.0 id is, tt)
   of_target (st.indexed id is s) h = (h.0 id is, of_index s h.1)
 
-  assigned : (target : Written) (e : Term) → AreBelow (target.name ∷ optional_names target.index) → AreBelow (term_names e)
+  assigned : (target : PlainTarget) (e : Term) → AreBelow (target.name ∷ optional_names target.index) → AreBelow (term_names e)
       → AreBelow (target.name ∷ optional_names target.index ++ term_names e)
   assigned target e a b = both (target.name ∷ optional_names target.index) (term_names e) a b
 
@@ -155,7 +155,7 @@ module _ (n : ℕ) where
   -- ---- statements
 
   mutual
-    of_statement : {v u : ℕ} {x : Statement} {o : _} {ls : List Spelt} → Says x o v u ls → AreLow ls → AreBelow (statement_names x)
+    of_statement : {v u : ℕ} {x : Statement} {o : _} {ls : List Spelt} → SpellsStatement x o v u ls → AreLow ls → AreBelow (statement_names x)
     of_statement (st.nothing is) h = tt
     of_statement (st.acts semicolon {ls = ls} s is) h = of_simple s (front ls _ h)
     of_statement (st.group s) h = of_block s h
@@ -184,12 +184,12 @@ module _ (n : ℕ) where
     of_block : {v u : ℕ} {place : Place} {body : List Statement} {ls : List Spelt} → Block place body v u ls → AreLow ls → AreBelow (statements_names (in_order body))
     of_block (st.block right {ls = ls} is s also) h = of_list s (front ls _ h.1)
 
-    of_list : {v : ℕ} {xs : List Statement} {ls : List Spelt} → Lists xs v ls → AreLow ls → AreBelow (statements_names (in_order xs))
+    of_list : {v : ℕ} {xs : List Statement} {ls : List Spelt} → SpellsStatements xs v ls → AreLow ls → AreBelow (statements_names (in_order xs))
     of_list st.no_more h = tt
     of_list (st.and_more {x = x} {xs = xs} {ls = ls} s r) h =
         both (statement_names x) (statements_names (in_order xs)) (of_statement s (front ls _ h)) (of_list r (behind ls _ h))
 
-    of_forks : {v : ℕ} {xs : List Launch} {ls : List Spelt} → Forks xs v ls → AreLow ls → AreBelow (branches_names (launched xs))
+    of_forks : {v : ℕ} {xs : List Launch} {ls : List Spelt} → SpellsBranches xs v ls → AreLow ls → AreBelow (branches_names (launched xs))
     of_forks (st.forked right {ls = ls} is s also) h = of_branches s (front ls _ h.1)
 
     of_branch : {v : ℕ} {x : Launch} {ls : List Spelt} → Starting x v ls → AreLow ls → (xs : List Launch) → AreBelow (branches_names (launched xs)) → AreBelow (branches_names (launched (x ∷ xs)))
@@ -197,7 +197,7 @@ module _ (n : ℕ) where
     of_branch (st.call {args = es} id is s) h xs rest = (h.0 id is, both (terms_names (listed es)) (branches_names (launched xs)) (of_passed s h.1) rest)
     of_branch (st.blocked {body = body} s) h xs rest = both (statements_names (in_order body)) (branches_names (launched xs)) (of_block s h) rest
 
-    of_branches : {v : ℕ} {xs : List Launch} {ls : List Spelt} → Launches xs v ls → AreLow ls → AreBelow (branches_names (launched xs))
+    of_branches : {v : ℕ} {xs : List Launch} {ls : List Spelt} → SpellsLaunches xs v ls → AreLow ls → AreBelow (branches_names (launched xs))
     of_branches (st.last_branch s) h = of_branch s h [] tt
     of_branches (st.next_branch {xs = xs} comma {ls = ls} s is r) h = of_branch s (front ls _ h) xs (of_branches r (behind ls _ h).1)
 
@@ -229,7 +229,7 @@ module _ (n : ℕ) where
   of_table (pr.constant id is also s) h = (h.0 id is, tt)
   of_table (pr.table equal left right id is s a b r c) h = (h.0 id is, tt)
 
-  of_combine : {v : ℕ} {c : Combine} {ls : List Spelt} → Combines c v ls → AreLow ls → AreBelow (combine_names (Some c))
+  of_combine : {v : ℕ} {c : Combine} {ls : List Spelt} → SpellsCombine c v ls → AreLow ls → AreBelow (combine_names (Some c))
   of_combine (pr.combines p id a b c is) h = (h.1.1.1.0 id is, tt)
 
   of_param : {v : ℕ} {x : Name} {ls : List Spelt} → Param x v ls → AreLow ls → x.id < n

@@ -14,8 +14,8 @@ use Rattle.forec_tree.specs.Scopes.{find_item}
 use Rattle.forec_tree.specs.Findings.{in_function}
 use Rattle.forec_tree.specs.Rules.{fault_if, is_plain, is_none}
 use Rattle.forec_tree.specs.Pauses.{within, find_function}
-use Rattle.forec_check.specs.AccessScan.{TextAccess, AccessScan, no_access, start, accessing_instances, as_access, body_access, access_step, instances_of, namings}
-use Rattle.forec_tree.specs.Faults.{is_in, Leads, calls_of, Reaches, start_name}
+use Rattle.forec_check.specs.AccessScan.{TextAccess, AccessScan, no_access, scan_start, accessing_instances, as_access, body_access, access_step, instances_of, program_namings}
+use Rattle.forec_tree.specs.Faults.{is_in, Leads, functions_called, ReachesByCalls, start_name}
 use Rattle.forec_check.specs.Least.{least_from}
 use Rattle.forec_tree.proofs.Fixed.{IsLocal}
 use Rattle.forec_check.proofs.LeastLaws.{least-append}
@@ -29,19 +29,19 @@ use Rattle.loop_check.proofs.Reading.{leads_same}
 use Rattle.forec_check.specs.declared.walk.effects.Effect.{Effect}
 use Rattle.forec_check.specs.declared.instances.access_count.AccessCount.{AccessCount}
 use Rattle.forec_check.specs.Walk.{effects_of, item_effects}
-use Rattle.forec_check.specs.Early.{calls_in, improves}
-use Rattle.forec_check.specs.AccessCounts.{capped, access_of, no_access_count, called_access, effects_in, scan_effects, capped_step, value_of, Orders, access_fault, access_faults}
+use Rattle.forec_check.specs.Early.{function_calls, improves}
+use Rattle.forec_check.specs.AccessCounts.{capped_access, access_of, no_access_count, called_access, effects_in, scan_effects, capped_step, access_value, Orders, access_fault, access_faults}
 use Rattle.forec_check.proofs.Recursion.{graph_is}
 use Rattle.forec_check.proofs.AccessCountLemmas.{effects_tell, capped_local, capped_within, two_instances, counted, capped_twice}
 
 -- ---- the step of a function
 
-pub step_effects : (text : Text) (g id : ℕ) (c : ℕ → TextAccess) → capped (as_access (scan_effects g c start (effects_in text (find_function id text)))) ≡ capped_step text g c id
+pub step_effects : (text : Text) (g id : ℕ) (c : ℕ → TextAccess) → capped_access (as_access (scan_effects g c scan_start (effects_in text (find_function id text)))) ≡ capped_step text g c id
 step_effects text g id c = pick (find_function id text)
   where
-    pick : (f : Option PlainFunction) → capped (as_access (scan_effects g c start (effects_in text f))) ≡ capped (body_access text g c f)
+    pick : (f : Option PlainFunction) → capped_access (as_access (scan_effects g c scan_start (effects_in text f))) ≡ capped_access (body_access text g c f)
     pick None = refl
-    pick (Some f) = ap (λ r. capped (as_access r)) (effects_tell g c start (in_function text f))
+    pick (Some f) = ap (λ r. capped_access (as_access r)) (effects_tell g c scan_start (in_function text f))
 
 -- the effects of the function of a name
 pub found_effects : (text : Text) (id : ℕ) (x : PlainItem) → find_item id text ≡ Some x → item_effects text x ≡ effects_in text (find_function id text)
@@ -77,31 +77,31 @@ no_body (u ∷ us) (y ∷ ys) f (suc at) e s = let p : map (λ w. w.items) us �
 -- ---- the table
 
 pub put_capped : (f h : ℕ) (v before after : AccessCount) → after ≡ put_at f h v before →
-    capped (access_of after) ≡ put_at f h (capped (access_of v)) (capped (access_of before))
+    capped_access (access_of after) ≡ put_at f h (capped_access (access_of v)) (capped_access (access_of before))
 put_capped f h v before after e =
-    ap (λ x. capped (access_of x)) e
-    ∙ (elim (f == h) as (λ b. capped (access_of (cond b v before)) ≡ cond b (capped (access_of v)) (capped (access_of before))) [ true ↦ refl | false ↦ refl ])
+    ap (λ x. capped_access (access_of x)) e
+    ∙ (elim (f == h) as (λ b. capped_access (access_of (cond b v before)) ≡ cond b (capped_access (access_of v)) (capped_access (access_of before))) [ true ↦ refl | false ↦ refl ])
 
 pub nothing_called : (h : ℕ) → called_access [] h ≡ no_access
 nothing_called zero = refl
 nothing_called (suc h) = refl
 
 -- two instances, by a whole table
-pub two_is : (text : Text) (g first : ℕ) (table : List AccessCount) (v : AccessCount) (count : ℕ) → access_of v ≡ called_access table first → called_access table first ≡ value_of text g first →
+pub two_is : (text : Text) (g first : ℕ) (table : List AccessCount) (v : AccessCount) (count : ℕ) → access_of v ≡ called_access table first → called_access table first ≡ access_value text g first →
     min count 2 ≡ min (accessing_instances (access_of v)) 2 → nat_lt 1 count ≡ nat_lt 1 (instances_of text g first)
 two_is text g first table v count is value c =
     let exact = within no_access (access_step text g) (length text) first in
-    let same : capped (access_of v) ≡ capped exact = ap capped (is ∙ value ∙ capped_within text g (length text) first) ∙ capped_twice exact in
+    let same : capped_access (access_of v) ≡ capped_access exact = ap capped_access (is ∙ value ∙ capped_within text g (length text) first) ∙ capped_twice exact in
     less_two count (accessing_instances exact) (c ∙ counted (access_of v) exact same)
   where
     less_two : (a b : ℕ) → min a 2 ≡ min b 2 → nat_lt 1 a ≡ nat_lt 1 b
     less_two a b m = grind (arith, nat_tests)
 
 -- an order of all functions
-pub orders_is : (text : Text) (functions order : List ℕ) (calls : ℕ → List ℕ) → Read (calls_in text) text functions calls → IsOrder functions calls order →
-    ((f : ℕ) → Reaches text f f → ⊥) → Orders text order
+pub orders_is : (text : Text) (functions order : List ℕ) (calls : ℕ → List ℕ) → Read (function_calls text) text functions calls → IsOrder functions calls order →
+    ((f : ℕ) → ReachesByCalls text f f → ⊥) → Orders text order
 orders_is text functions order calls r o free =
-    let round = λ (f : ℕ) (l : Leads calls f f). free f (leads_same calls (calls_of text) (graph_is text functions calls r) l) in
+    let round = λ (f : ℕ) (l : Leads calls f f). free f (leads_same calls (functions_called text) (graph_is text functions calls r) l) in
     let short = o.short in
     let few = r.few in
     record {
@@ -116,7 +116,7 @@ orders_is text functions order calls r o free =
     nothing : (g h : ℕ) (a : ℕ → TextAccess) → is_function text h ≡ false → capped_step text g a h ≡ no_access
     nothing g h a i = pick (find_function h text) i
       where
-        pick : (f : Option PlainFunction) → not (is_none f) ≡ false → capped (body_access text g a f) ≡ no_access
+        pick : (f : Option PlainFunction) → not (is_none f) ≡ false → capped_access (body_access text g a f) ≡ no_access
         pick None q = refl
         pick (Some f) q = absurd (let z : true ≡ false = q in cc)
 
@@ -125,7 +125,7 @@ orders_is text functions order calls r o free =
 pub plain_no : (text : Text) (names : List (List ℕ)) (x : PlainItem) (g : PlainGlobal) (kept : Option Fault) → x ≡ IsGlobal g → is_plain g.kind ≡ false → kept ≡ least_from kept (access_fault text names x)
 unfolding least_from
 plain_no text names x g kept h p =
-    sym (ap (λ y. least_from kept (access_fault text names y)) h ∙ ap (λ b. least_from kept (fault_if (b && nat_lt 1 (namings text names g.name.id)) g.name.place 10)) p)
+    sym (ap (λ y. least_from kept (access_fault text names y)) h ∙ ap (λ b. least_from kept (fault_if (b && nat_lt 1 (program_namings text names g.name.id)) g.name.place 10)) p)
 
 pub plain_function : (text : Text) (names : List (List ℕ)) (x : PlainItem) (f : PlainFunction) (kept : Option Fault) → x ≡ IsFunction f → kept ≡ least_from kept (access_fault text names x)
 unfolding least_from
@@ -137,7 +137,7 @@ pub plain_yes : (text : Text) (names : List (List ℕ)) (x : PlainItem) (g : Pla
 plain_yes text names x g first two kept new h p s t n =
     n ∙ ap (λ b. least_from kept (fault_if b g.name.place 10)) (t
     ∙ sym (ap (λ o. nat_lt 1 (elim o [ None ↦ 0 | Some start ↦ instances_of text g.name.id start ])) s))
-    ∙ sym (ap (λ y. least_from kept (access_fault text names y)) h ∙ ap (λ b. least_from kept (fault_if (b && nat_lt 1 (namings text names g.name.id)) g.name.place 10)) p)
+    ∙ sym (ap (λ y. least_from kept (access_fault text names y)) h ∙ ap (λ b. least_from kept (fault_if (b && nat_lt 1 (program_namings text names g.name.id)) g.name.place 10)) p)
 
 -- a global that one instance names at most
 pub plain_single : (text : Text) (names : List (List ℕ)) (x : PlainItem) (g : PlainGlobal) (first : ℕ) (kept : Option Fault) → x ≡ IsGlobal g → start_name names text ≡ Some first →
@@ -159,7 +159,7 @@ pub plain_more : (text : Text) (names : List (List ℕ)) (x : PlainItem) (g : Pl
 unfolding least_from
 plain_more text names x g None h i = absurd (let q : true ≡ false = i in cc)
 plain_more text names x g (Some k) h i =
-    sym (ap (λ y. least_from (Some k) (access_fault text names y)) h ∙ by (is_plain g.kind && nat_lt 1 (namings text names g.name.id)))
+    sym (ap (λ y. least_from (Some k) (access_fault text names y)) h ∙ by (is_plain g.kind && nat_lt 1 (program_namings text names g.name.id)))
   where
     by : (b : Bool) → least_from (Some k) (fault_if b g.name.place 10) ≡ Some k
     by true = ap (λ c. let r : Option Fault = Some (cond c (record { place = g.name.place; rule = 10 }) k) in r) i
@@ -184,7 +184,7 @@ pub plains_none : (text : Text) (names : List (List ℕ)) (xs : List PlainItem) 
 unfolding least_from
 plains_none text names xs kept h = sym (ap (least_from kept) (nothing xs))
   where
-    two : (g : PlainGlobal) → nat_lt 1 (namings text names g.name.id) ≡ false
+    two : (g : PlainGlobal) → nat_lt 1 (program_namings text names g.name.id) ≡ false
     two g = ap (λ o. nat_lt 1 (elim o [ None ↦ 0 | Some start ↦ instances_of text g.name.id start ])) h
 
     one : (x : PlainItem) → access_fault text names x ≡ []

@@ -16,14 +16,14 @@ use Rattle.forec_check.specs.declared.instances.propagate.SiteTables.{SiteTables
 use Rattle.forec_check.specs.declared.walk.effects.Effect.{Effect}
 use Rattle.forec_check.specs.declared.instances.single.SingleAccess.{SingleAccess}
 use Rattle.forec_check.specs.AccessCounts.{Orders, effects_in}
-use Rattle.forec_check.specs.CallSites.{SiteMaps, InstanceView, sites_at, opened, inside_after, Holds, Rests, tables_of, outermost, SameTables, Settled, body_settled, AllSettled}
+use Rattle.forec_check.specs.CallSites.{SiteMaps, InstanceView, sites_at, opened_sites, inside_after, Holds, MovesNothing, site_maps, outermost, SameTables, HoldsEffects, body_settled, AllSettled}
 use Rattle.forec_check.specs.SingleAccess.{not_many, is_single, TellsSingle}
 use Rattle.forec_check.proofs.Single.{single}
 
 abbrev known : List CallSites → List CallSites → List CallSites → SiteMaps
 known calls texts globals = record { calls = sites_at calls; texts = sites_at texts; globals = sites_at globals }
 
-pub same_known : (a b : SiteTables) → SameTables a b → tables_of b ≡ tables_of a
+pub same_known : (a b : SiteTables) → SameTables a b → site_maps b ≡ site_maps a
 same_known a b s =
     ap (λ x. known x b.texts.items b.globals.items) s.calls ∙ (ap (λ x. known a.calls.items x b.globals.items) s.texts ∙ ap (λ x. known a.calls.items a.texts.items x) s.globals)
 
@@ -32,15 +32,15 @@ same_next a b d f g = record { calls = g.calls ∙ f.calls; texts = g.texts ∙ 
 
 -- one more effect
 pub settled_step : (t : SiteMaps) (f i : ℕ) (effects : List Effect) (default : Effect) (site : CallSites) (before after : InstanceView) → i < length effects →
-    site ≡ opened (t.calls f) (record { function = f; effect = i + 1 }) → Rests t (get_or effects i default) site before after →
-    Settled t f ((i + 1) + 1) after (drop (i + 1) effects) → Settled t f (i + 1) before (drop i effects)
+    site ≡ opened_sites (t.calls f) (record { function = f; effect = i + 1 }) → MovesNothing t (get_or effects i default) site before after →
+    HoldsEffects t f ((i + 1) + 1) after (drop (i + 1) effects) → HoldsEffects t f (i + 1) before (drop i effects)
 settled_step t f i effects default site before after h s r rest =
     let x = get_or effects i default in
     let e : drop i effects ≡ x ∷ drop (i + 1) effects = drop-cons effects i default h ∙ ap (λ n. x ∷ drop n effects) (sym (add-one i)) in
-    subst (λ l. Settled t f (i + 1) before l) (sym e) (
+    subst (λ l. HoldsEffects t f (i + 1) before l) (sym e) (
       subst (λ q. Holds t x q before) s r.holds,
-      subst (λ q. Settled t f (suc (i + 1)) q (drop (i + 1) effects)) (r.next ∙ ap (λ q. inside_after x q before) s)
-          (subst (λ n. Settled t f n after (drop (i + 1) effects)) (add-one (i + 1)) rest),
+      subst (λ q. HoldsEffects t f (suc (i + 1)) q (drop (i + 1) effects)) (r.next ∙ ap (λ q. inside_after x q before) s)
+          (subst (λ n. HoldsEffects t f n after (drop (i + 1) effects)) (add-one (i + 1)) rest),
     )
 
 -- each function that is called
@@ -50,15 +50,15 @@ every_body text first order t o s f some =
     (λ i. let at = place_of f order (o.whole f i) in subst (λ x. body_settled text t x) at.is (s.bodies at.place at.low (λ e. some (sym (ap t.calls at.is) ∙ e))))
     (λ i. none (find_function f text) i)
   where
-    none : (x : Option PlainFunction) → not (is_none x) ≡ false → Settled t f 1 (outermost t f) (effects_in text x)
+    none : (x : Option PlainFunction) → not (is_none x) ≡ false → HoldsEffects t f 1 (outermost t f) (effects_in text x)
     none None i = refl
     none (Some x) i = absurd (let q : true ≡ false = i in cc)
 
-pub told : (text : Text) (first : ℕ) (order : List ℕ) (tables : SiteTables) (n : SingleAccess) (moved : Bool) → Orders text order → (moved ≡ false → AllSettled text first order (tables_of tables)) →
+pub told : (text : Text) (first : ℕ) (order : List ℕ) (tables : SiteTables) (n : SingleAccess) (moved : Bool) → Orders text order → (moved ≡ false → AllSettled text first order (site_maps tables)) →
     n.globals ≡ tables.globals → n.certain ≡ not moved → TellsSingle text first n
 told text first order tables n moved o s globals certain =
     λ g e.
-    let t = tables_of tables in
+    let t = site_maps tables in
     let rests : moved ≡ false = is_false moved (sym certain ∙ both (not_many (sites_at n.globals.items g)) n.certain e) in
     let all = s rests in
     single text t o.free (every_body text first order t o all) g

@@ -18,7 +18,7 @@ use Rattle.forec_tree.specs.Findings as finding
 use Rattle.forec_tree.specs.Findings.{Finding}
 use Rattle.forec_tree.specs.Rules.{fault_if, is_none}
 use Rattle.forec_tree.specs.Pauses.{find_function}
-use Rattle.forec_tree.specs.Faults.{is_in, Leads, at_once, through, Reaches, calls_of, called_in, in_function, item_named, Member, here, later, IsLeast, Recursive, IsEarly, is_before, text_faults}
+use Rattle.forec_tree.specs.Faults.{is_in, Leads, at_once, through, ReachesByCalls, functions_called, called_in, in_function, item_named, Member, here, later, IsLeast, Recursive, IsEarly, is_before, text_faults}
 use Rattle.forec_check.specs.Least.{lesser, least_from}
 use Rattle.forec_check.proofs.LeastLaws.{before_trans, before_self, before_flip, lesser_none, lesser_kept, lesser_is, none_least, is_least}
 use Rattle.loop_check.specs.Graph.{IsOrder, FunctionsCall}
@@ -31,7 +31,7 @@ use Rattle.forec_check.specs.declared.walk.effects.Effect.{Effect}
 use Rattle.forec_check.specs.declared.walk.effects.Effect.TheVariants as effect
 use Rattle.forec_check.specs.Walk.{effects_of, finding_effects}
 use Rattle.forec_check.specs.Items.{in_item}
-use Rattle.forec_check.specs.Early.{effect_calls, calls_in, improves, Kept, RecursiveIn, EarlyTo}
+use Rattle.forec_check.specs.Early.{effect_calls, function_calls, improves, IsLeastOrNone, RecursiveIn, EarlyTo}
 
 -- ---- the calls of effects
 
@@ -97,21 +97,21 @@ calls_is (f ∷ rest) =
 
 -- ---- the graph
 
-pub calls_at : (text : Text) (id : ℕ) → list_at (calls_in text) (find_function id text) ≡ calls_of text id
-calls_at text id = elim (find_item id text) as (λ i. list_at (calls_in text) (elim i [ None ↦ None | Some (IsGlobal g) ↦ None | Some (IsFunction f) ↦ Some f ])
+pub calls_at : (text : Text) (id : ℕ) → list_at (function_calls text) (find_function id text) ≡ functions_called text id
+calls_at text id = elim (find_item id text) as (λ i. list_at (function_calls text) (elim i [ None ↦ None | Some (IsGlobal g) ↦ None | Some (IsFunction f) ↦ Some f ])
     ≡ elim i [ None ↦ [] | Some (IsGlobal g) ↦ [] | Some (IsFunction f) ↦ called_in (in_function text f) ]) [
       | None ↦ refl
       | Some (IsGlobal g) ↦ refl
       | Some (IsFunction f) ↦ refl
     ]
 
-pub graph_is : (text : Text) (functions : List ℕ) (calls : ℕ → List ℕ) → Read (calls_in text) text functions calls → (id : ℕ) → calls id ≡ calls_of text id
+pub graph_is : (text : Text) (functions : List ℕ) (calls : ℕ → List ℕ) → Read (function_calls text) text functions calls → (id : ℕ) → calls id ≡ functions_called text id
 graph_is text functions calls r id = r.lists id ∙ calls_at text id
 
-pub functions_call : (text : Text) (functions : List ℕ) (calls : ℕ → List ℕ) → Read (calls_in text) text functions calls → FunctionsCall functions calls
+pub functions_call : (text : Text) (functions : List ℕ) (calls : ℕ → List ℕ) → Read (function_calls text) text functions calls → FunctionsCall functions calls
 functions_call text functions calls r g h e = r.stands g ∙ pick (find_function g text) (sym (ap (is_in h) (r.lists g)) ∙ e)
   where
-    pick : (f : Option PlainFunction) → is_in h (list_at (calls_in text) f) ≡ true → not (is_none f) ≡ true
+    pick : (f : Option PlainFunction) → is_in h (list_at (function_calls text) f) ≡ true → not (is_none f) ≡ true
     pick None q = absurd (let z : false ≡ true = q in cc)
     pick (Some f) q = refl
 
@@ -122,7 +122,7 @@ leads_from functions calls call {m} {g} (through {g = q} e r) = call m q e
 
 -- ---- the least of a growing set
 
-pub same_kept : (k : Option Fault) (A B : Fault → Type 0) → ((f : Fault) → A f → B f) → ((f : Fault) → B f → A f) → Kept k A → Kept k B
+pub same_kept : (k : Option Fault) (A B : Fault → Type 0) → ((f : Fault) → A f → B f) → ((f : Fault) → B f → A f) → IsLeastOrNone k A → IsLeastOrNone k B
 same_kept None A B to back h = λ f b. h f (back f b)
 same_kept (Some m) A B to back h = record { among = to m h.among; least = λ f b. h.least f (back f b) }
 
@@ -130,7 +130,7 @@ same_kept (Some m) A B to back h = record { among = to m h.among; least = λ f b
 abbrev pub OrFault : (Fault → Type 0) → Bool → Fault → Fault → Type 0
 OrFault A b fault f = A f ⊎ ((b ≡ true) × (f ≡ fault))
 
-kept_true : (k : Option Fault) (A : Fault → Type 0) (fault : Fault) → Kept k A → Kept (least_from k (fault ∷ [])) (OrFault A true fault)
+kept_true : (k : Option Fault) (A : Fault → Type 0) (fault : Fault) → IsLeastOrNone k A → IsLeastOrNone (least_from k (fault ∷ [])) (OrFault A true fault)
 unfolding least_from
 kept_true None A fault h =
     record {
@@ -145,18 +145,18 @@ kept_true (Some k) A fault h =
           (λ e. ap (λ g. is_before g (lesser (Some k) fault)) e.1 ∙ lesser_none (Some k) fault) p;
     }
 
-kept_false : (k : Option Fault) (A : Fault → Type 0) (fault : Fault) → Kept k A → Kept (least_from k []) (OrFault A false fault)
+kept_false : (k : Option Fault) (A : Fault → Type 0) (fault : Fault) → IsLeastOrNone k A → IsLeastOrNone (least_from k []) (OrFault A false fault)
 unfolding least_from
 kept_false k A fault h =
     same_kept k A (OrFault A false fault) (λ f a. inl a) (λ f p. ⊎_elim (λ a. a) (λ e. absurd (let q : false ≡ true = e.0 in cc)) p) h
 
-pub kept_step : (k : Option Fault) (A : Fault → Type 0) (b : Bool) (place : Place) (rule : ℕ) → Kept k A →
-    Kept (least_from k (fault_if b place rule)) (OrFault A b (record { place = place; rule = rule }))
+pub kept_step : (k : Option Fault) (A : Fault → Type 0) (b : Bool) (place : Place) (rule : ℕ) → IsLeastOrNone k A →
+    IsLeastOrNone (least_from k (fault_if b place rule)) (OrFault A b (record { place = place; rule = rule }))
 kept_step k A true place rule h = kept_true k A (record { place = place; rule = rule }) h
 kept_step k A false place rule h = kept_false k A (record { place = place; rule = rule }) h
 
 -- the least of a list
-pub kept_list : (fs : List Fault) (k : Option Fault) → k ≡ least_from None fs → Kept k (λ f. Member f fs)
+pub kept_list : (fs : List Fault) (k : Option Fault) → k ≡ least_from None fs → IsLeastOrNone k (λ f. Member f fs)
 kept_list fs None h = let e = none_least fs (sym h) in λ f p. absurd (none_in f fs e p)
   where
     none_in : (f : Fault) (fs : List Fault) → fs ≡ [] → Member f fs → ⊥
@@ -238,7 +238,7 @@ module _ (text : Text) (names : List (List ℕ)) (at : ℕ) (x : PlainItem) (get
       (member_snoc (IsFunction c.function) (take at text) x (subst (λ ys. Member (IsFunction c.function) ys) (next_of text at x get) c.stands))) p
 
   pub nothing_new : (k : Option Fault) → ((f : Fault) → (c : RecursiveIn text (take (at + 1) text) f) → IsFunction c.function ≡ x → EarlyTo text names (take at text) f) →
-      Kept k (EarlyTo text names (take at text)) → Kept k (EarlyTo text names (take (at + 1) text))
+      IsLeastOrNone k (EarlyTo text names (take at text)) → IsLeastOrNone k (EarlyTo text names (take (at + 1) text))
   nothing_new k old h =
       same_kept k (EarlyTo text names (take at text)) (EarlyTo text names (take (at + 1) text)) grows
       (λ f p. ⊎_elim (λ a. a) (λ c. old f c.0 c.1) (shrinks f p)) h
@@ -260,7 +260,7 @@ module _ (text : Text) (names : List (List ℕ)) (at : ℕ) (x : PlainItem) (get
 
   -- a fault that is not less than the one kept changes nothing
   pub no_less : (k : Option Fault) (f : PlainFunction) → x ≡ IsFunction f → improves k (record { place = f.name.place; rule = 6 }) ≡ false →
-      Kept k (EarlyTo text names (take at text)) → Kept k (EarlyTo text names (take (at + 1) text))
+      IsLeastOrNone k (EarlyTo text names (take at text)) → IsLeastOrNone k (EarlyTo text names (take (at + 1) text))
   no_less None f is i h = absurd (let q : true ≡ false = i in cc)
   no_less (Some m) f is i h =
       record {
@@ -274,12 +274,12 @@ module _ (text : Text) (names : List (List ℕ)) (at : ℕ) (x : PlainItem) (get
       }
 
   pub one_more : (k new : Option Fault) (f : PlainFunction) (b : Bool) → x ≡ IsFunction f → item_named (name_of x).id (take at text) ≡ false →
-      (b ≡ true → Reaches text f.name.id f.name.id) → (Reaches text f.name.id f.name.id → b ≡ true) →
-      new ≡ least_from k (fault_if b f.name.place 6) → Kept k (EarlyTo text names (take at text)) → Kept new (EarlyTo text names (take (at + 1) text))
+      (b ≡ true → ReachesByCalls text f.name.id f.name.id) → (ReachesByCalls text f.name.id f.name.id → b ≡ true) →
+      new ≡ least_from k (fault_if b f.name.place 6) → IsLeastOrNone k (EarlyTo text names (take at text)) → IsLeastOrNone new (EarlyTo text names (take (at + 1) text))
   one_more k new f b is n yes_ back_ e h =
       let fault : Fault = record { place = f.name.place; rule = 6 } in
       let step = kept_step k (EarlyTo text names (take at text)) b f.name.place 6 h in
-      subst (λ m. Kept m (EarlyTo text names (take (at + 1) text))) (sym e)
+      subst (λ m. IsLeastOrNone m (EarlyTo text names (take (at + 1) text))) (sym e)
       (same_kept (least_from k (fault_if b f.name.place 6)) (OrFault (EarlyTo text names (take at text)) b fault) (EarlyTo text names (take (at + 1) text))
       (λ g p.
       ⊎_elim (λ a. grows g a)
@@ -297,12 +297,12 @@ module _ (text : Text) (names : List (List ℕ)) (at : ℕ) (x : PlainItem) (get
       (λ c.
       let same : c.0.function ≡ f = (let q : IsFunction c.0.function ≡ IsFunction f = c.1 ∙ is in cc) in
       inr (
-        back_ (subst (λ h. Reaches text h.name.id h.name.id) same c.0.reaches),
+        back_ (subst (λ h. ReachesByCalls text h.name.id h.name.id) same c.0.reaches),
         c.0.is ∙ ap (λ (h : PlainFunction). let r : Fault = record { place = h.name.place; rule = 6 } in r) same,
       )) (shrinks g p)) step)
 
 -- all items
-pub all_early : (text : Text) (names : List (List ℕ)) (n : ℕ) (k : Option Fault) → length text ≤ n → Kept k (EarlyTo text names (take n text)) → Kept k (IsEarly text names)
+pub all_early : (text : Text) (names : List (List ℕ)) (n : ℕ) (k : Option Fault) → length text ≤ n → IsLeastOrNone k (EarlyTo text names (take n text)) → IsLeastOrNone k (IsEarly text names)
 all_early text names n k l h =
     same_kept k (EarlyTo text names (take n text)) (IsEarly text names)
     (λ f p. ⊎_elim (λ a. inl a) (λ c. inr (record {
@@ -320,7 +320,7 @@ all_early text names n k l h =
       is = c.is;
     })) p) h
 
-pub none_early : (text : Text) (names : List (List ℕ)) (k : Option Fault) → Kept k (λ f. Member f (text_faults text names)) → Kept k (EarlyTo text names [])
+pub none_early : (text : Text) (names : List (List ℕ)) (k : Option Fault) → IsLeastOrNone k (λ f. Member f (text_faults text names)) → IsLeastOrNone k (EarlyTo text names [])
 none_early text names k h =
     same_kept k (λ f. Member f (text_faults text names)) (EarlyTo text names []) (λ f a. inl a) (λ f p. ⊎_elim (λ a. a) (λ c. elim c.stands [ ]) p) h
 
@@ -336,6 +336,6 @@ body_at (u ∷ us) (y ∷ ys) g zero x v e s b =
     ap (λ w. w.items) (sym b) ∙ p ∙ ap g q
 body_at (u ∷ us) (y ∷ ys) g (suc at) x v e s b = let p : map (λ w. w.items) us ≡ map g ys = cc in body_at us ys g at x v p s b
 
-pub list_is : (text : Text) (x : PlainItem) (list : List ℕ) (effects : List Effect) → effects ≡ effects_of (in_item text x) → list ≡ effect_calls effects → IsListOf (calls_in text) x list
+pub list_is : (text : Text) (x : PlainItem) (list : List ℕ) (effects : List Effect) → effects ≡ effects_of (in_item text x) → list ≡ effect_calls effects → IsListOf (function_calls text) x list
 list_is text (IsGlobal g) list effects e l = tt
 list_is text (IsFunction f) list effects e l = l ∙ ap effect_calls e ∙ calls_is (in_function text f)

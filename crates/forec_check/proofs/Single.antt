@@ -6,8 +6,8 @@ use Rattle.std.proofs.lemmas.Bool.Decides.{nat_tests}
 use Rattle.forec_tree.specs.Terms.{Text, PlainFunction}
 use Rattle.forec_tree.specs.Findings.{in_function}
 use Rattle.forec_tree.specs.Pauses.{within, find_function}
-use Rattle.forec_check.specs.AccessScan.{TextAccess, AccessScan, no_access, start, accessing_instances, as_access, closed, body_access, access_step, instances_of}
-use Rattle.forec_tree.specs.Faults.{is_in, Leads, at_once, through, calls_of, called_in}
+use Rattle.forec_check.specs.AccessScan.{TextAccess, AccessScan, no_access, scan_start, accessing_instances, as_access, closed, body_access, access_step, instances_of}
+use Rattle.forec_tree.specs.Faults.{is_in, Leads, at_once, through, functions_called, called_in}
 use Rattle.forec_tree.proofs.Reach.{append}
 use Rattle.loop_check.specs.Known.{list_at}
 use Rattle.loop_check.proofs.IndexLemmas.{split}
@@ -16,10 +16,10 @@ use Rattle.forec_check.specs.declared.walk.effects.Effect.TheVariants as effect
 use Rattle.forec_check.specs.declared.instances.call_sites.CallSite.{CallSite}
 use Rattle.forec_check.specs.declared.instances.call_sites.CallSites.{CallSites}
 use Rattle.forec_check.specs.declared.instances.call_sites.CallSites.TheVariants as sites
-use Rattle.forec_check.specs.Early.{effect_calls, calls_in}
+use Rattle.forec_check.specs.Early.{effect_calls, function_calls}
 use Rattle.forec_check.specs.Walk.{effects_of}
 use Rattle.forec_check.specs.AccessCounts.{effects_in, scan_effect, scan_effects}
-use Rattle.forec_check.specs.CallSites.{same_call_site, is_within, opened, SiteMaps, InstanceView, left, inside_after, Holds, Settled, body_settled, start_site}
+use Rattle.forec_check.specs.CallSites.{same_call_site, is_within, opened_sites, SiteMaps, InstanceView, view_after_block, inside_after, Holds, HoldsEffects, body_settled, start_site}
 use Rattle.forec_check.proofs.Recursion.{calls_is, calls_at}
 use Rattle.forec_check.proofs.AccessCountLemmas.{effects_tell}
 
@@ -55,7 +55,7 @@ within_trans sites.Many sites.None c h k = absurd (let q : false ≡ true = h in
 within_trans sites.Many (sites.One r) c h k = absurd (let q : false ≡ true = h in cc)
 within_trans sites.Many sites.Many c h k = k
 
-opened_some : (c : CallSites) (s : CallSite) → c ≢ sites.None → opened c s ≢ sites.None
+opened_some : (c : CallSites) (s : CallSite) → c ≢ sites.None → opened_sites c s ≢ sites.None
 opened_some sites.None s n = n
 opened_some (sites.One a) s n = λ e. let q : sites.One s ≡ sites.None = e in cc
 opened_some sites.Many s n = λ e. let q : sites.Many ≡ sites.None = e in cc
@@ -66,7 +66,7 @@ pub record Alone (calls : CallSites) (s j : CallSite) : Type 0 where
   pub called : calls ≡ sites.One from
   pub is : s ≡ j
 
-opened_one : (c : CallSites) (s j : CallSite) → c ≢ sites.None → is_within (opened c s) (sites.One j) ≡ true → Alone c s j
+opened_one : (c : CallSites) (s j : CallSite) → c ≢ sites.None → is_within (opened_sites c s) (sites.One j) ≡ true → Alone c s j
 opened_one sites.None s j n h = absurd (n refl)
 opened_one (sites.One a) s j n h = record { from = a; called = refl; is = same_is s j h }
 opened_one sites.Many s j n h = absurd (let q : false ≡ true = h in cc)
@@ -112,19 +112,19 @@ called_by (effect.Closes ∷ rest) (suc i) s h = called_by rest i s h
 abbrev effects_at : Text → ℕ → List Effect
 effects_at text f = effects_in text (find_function f text)
 
-effects_call : (text : Text) (f : ℕ) → effect_calls (effects_at text f) ≡ calls_of text f
+effects_call : (text : Text) (f : ℕ) → effect_calls (effects_at text f) ≡ functions_called text f
 effects_call text f = pick (find_function f text) ∙ calls_at text f
   where
-    pick : (x : Option PlainFunction) → effect_calls (effects_in text x) ≡ list_at (calls_in text) x
+    pick : (x : Option PlainFunction) → effect_calls (effects_in text x) ≡ list_at (function_calls text) x
     pick None = refl
     pick (Some x) = calls_is (in_function text x)
 
-call_leads : (text : Text) (f i s : ℕ) → call_at (effects_at text f) i ≡ Some s → is_in s (calls_of text f) ≡ true
+call_leads : (text : Text) (f i s : ℕ) → call_at (effects_at text f) i ≡ Some s → is_in s (functions_called text f) ≡ true
 call_leads text f i s h = ap (is_in s) (sym (effects_call text f)) ∙ called_by (effects_at text f) i s h
 
-way_leads : (text : Text) {f i s : ℕ} → Way (effects_at text) f i s → Leads (calls_of text) f s
+way_leads : (text : Text) {f i s : ℕ} → Way (effects_at text) f i s → Leads (functions_called text) f s
 way_leads text {f} {i} {s} (directly e) = at_once (call_leads text f i s e)
-way_leads text {f} {i} {s} (onward m l w e) = append (calls_of text) (way_leads text w) (at_once (call_leads text m l s e))
+way_leads text {f} {i} {s} (onward m l w e) = append (functions_called text) (way_leads text w) (at_once (call_leads text m l s e))
 
 -- one call more in front
 way_from : (effects : ℕ → List Effect) (f p id : ℕ) → call_at (effects f) p ≡ Some id → {i s : ℕ} → Way effects id i s → Way effects f p s
@@ -135,7 +135,7 @@ abbrev AllSome : List CallSites → Type 0
 AllSome [] = Unit {0}
 AllSome (x ∷ xs) = (x ≢ sites.None) × AllSome xs
 
-module _ (text : Text) (t : SiteMaps) (free : (f : ℕ) → Leads (calls_of text) f f → ⊥) (settled : (f : ℕ) → t.calls f ≢ sites.None → body_settled text t f) where
+module _ (text : Text) (t : SiteMaps) (free : (f : ℕ) → Leads (functions_called text) f f → ⊥) (settled : (f : ℕ) → t.calls f ≢ sites.None → body_settled text t f) where
   abbrev Reached : ℕ → Type 0
   Reached f = (t.calls f ≢ sites.None) × (t.texts f ≢ sites.None)
 
@@ -143,10 +143,10 @@ module _ (text : Text) (t : SiteMaps) (free : (f : ℕ) → Leads (calls_of text
   site_of f n = record { function = f; effect = n }
 
   pub record Called (f n s : ℕ) : Type 0 where
-    pub calls : is_within (opened (t.calls f) (site_of f n)) (t.calls s) ≡ true
+    pub calls : is_within (opened_sites (t.calls f) (site_of f n)) (t.calls s) ≡ true
     pub texts : t.texts s ≢ sites.None
 
-  call_held : (f n s : ℕ) (e : Effect) (r : InstanceView) → Reached f → r.here ≢ sites.None → callee_of e ≡ Some s → Holds t e (opened (t.calls f) (site_of f n)) r → Called f n s
+  call_held : (f n s : ℕ) (e : Effect) (r : InstanceView) → Reached f → r.here ≢ sites.None → callee_of e ≡ Some s → Holds t e (opened_sites (t.calls f) (site_of f n)) r → Called f n s
   call_held f n s (effect.Accesses id) r reached some c h = absurd (let q : None ≡ Some s = c in cc)
   call_held f n s (effect.Computes id) r reached some c h = absurd (let q : None ≡ Some s = c in cc)
   call_held f n s (effect.Runs id) r reached some c h =
@@ -154,7 +154,7 @@ module _ (text : Text) (t : SiteMaps) (free : (f : ℕ) → Leads (calls_of text
       subst (λ x. Called f n x) q (record { calls = h.0; texts = within_some r.here (t.texts id) h.1 some })
   call_held f n s (effect.Starts id) r reached some c h =
       let q : id ≡ s = (let z : Some id ≡ Some s = c in cc) in
-      let at = opened (t.calls f) (site_of f n) in
+      let at = opened_sites (t.calls f) (site_of f n) in
       subst (λ x. Called f n x) q (record { calls = h.0; texts = within_some at (t.texts id) h.1 (opened_some (t.calls f) (site_of f n) reached.0) })
   call_held f n s effect.Opens r reached some c h = absurd (let q : None ≡ Some s = c in cc)
   call_held f n s effect.Closes r reached some c h = absurd (let q : None ≡ Some s = c in cc)
@@ -163,7 +163,7 @@ module _ (text : Text) (t : SiteMaps) (free : (f : ℕ) → Leads (calls_of text
   abbrev Somewhere : InstanceView → Type 0
   Somewhere r = (r.here ≢ sites.None) × AllSome r.round
 
-  left_some : (here : CallSites) (round : List CallSites) → here ≢ sites.None → AllSome round → Somewhere (left here round)
+  left_some : (here : CallSites) (round : List CallSites) → here ≢ sites.None → AllSome round → Somewhere (view_after_block here round)
   left_some here [] h a = (h, tt)
   left_some here (x ∷ xs) h a = (a.0, a.1)
 
@@ -175,13 +175,13 @@ module _ (text : Text) (t : SiteMaps) (free : (f : ℕ) → Leads (calls_of text
   somewhere_on effect.Opens s r n h = (n, (h.0, h.1))
   somewhere_on effect.Closes s r n h = left_some r.here r.round h.0 h.1
 
-  call_in : (f : ℕ) → Reached f → (n i s : ℕ) (r : InstanceView) (es : List Effect) → Settled t f n r es → Somewhere r → call_at es i ≡ Some s → Called f (n + i) s
+  call_in : (f : ℕ) → Reached f → (n i s : ℕ) (r : InstanceView) (es : List Effect) → HoldsEffects t f n r es → Somewhere r → call_at es i ≡ Some s → Called f (n + i) s
   call_in f reached n i s r [] h some c = absurd (let q : None ≡ Some s = c in cc)
   call_in f reached n zero s r (e ∷ rest) h some c =
       let m : n ≡ n + 0 = omega arith in
       subst (λ k. Called f k s) m (call_held f n s e r reached some.0 c h.0)
   call_in f reached n (suc i) s r (e ∷ rest) h some c =
-      let at = opened (t.calls f) (site_of f n) in
+      let at = opened_sites (t.calls f) (site_of f n) in
       let m : suc n + i ≡ n + suc i = omega arith in
       subst (λ k. Called f k s) m
       (call_in f reached (suc n) i s (inside_after e at r) rest h.1 (somewhere_on e at r (opened_some (t.calls f) (site_of f n) reached.0) some) c)
@@ -195,7 +195,7 @@ module _ (text : Text) (t : SiteMaps) (free : (f : ℕ) → Leads (calls_of text
   reached_on : (f i s : ℕ) → Reached f → call_at (effects_at text f) i ≡ Some s → Reached s
   reached_on f i s reached c =
       let k = called_at f i s reached c in
-      (within_some (opened (t.calls f) (site_of f (suc i))) (t.calls s) k.calls (opened_some (t.calls f) (site_of f (suc i)) reached.0), k.texts)
+      (within_some (opened_sites (t.calls f) (site_of f (suc i))) (t.calls s) k.calls (opened_some (t.calls f) (site_of f (suc i)) reached.0), k.texts)
 
   way_reached : {f i s : ℕ} → Reached f → Way (effects_at text) f i s → Reached s
   way_reached {f} {i} {s} reached (directly e) = reached_on f i s reached e
@@ -204,7 +204,7 @@ module _ (text : Text) (t : SiteMaps) (free : (f : ℕ) → Leads (calls_of text
   -- the one site that a function is called from
   one_site : (m l s : ℕ) (a : CallSite) → Reached m → call_at (effects_at text m) l ≡ Some s → t.calls s ≡ sites.One a → Alone (t.calls m) (site_of m (suc l)) a
   one_site m l s a reached c one =
-      opened_one (t.calls m) (site_of m (suc l)) a reached.0 (subst (λ x. is_within (opened (t.calls m) (site_of m (suc l))) x ≡ true) one (called_at m l s reached c).calls)
+      opened_one (t.calls m) (site_of m (suc l)) a reached.0 (subst (λ x. is_within (opened_sites (t.calls m) (site_of m (suc l))) x ≡ true) one (called_at m l s reached c).calls)
 
   -- two ways to a function that is called from one site go by one call
   ways_same : {f i k s : ℕ} (a : CallSite) → t.calls s ≡ sites.One a → Reached f → Way (effects_at text) f i s → Way (effects_at text) f k s → i ≡ k
@@ -215,11 +215,11 @@ module _ (text : Text) (t : SiteMaps) (free : (f : ℕ) → Leads (calls_of text
   ways_same {f} {i} {k} {s} a one reached (directly e) (onward m l w d) =
       let p = (one_site f i s a reached e one).is in
       let q = (one_site m l s a (way_reached reached w) d one).is in
-      absurd (free f (subst (λ x. Leads (calls_of text) f x) (sym (ap (λ x. x.function) (p ∙ sym q))) (way_leads text w)))
+      absurd (free f (subst (λ x. Leads (functions_called text) f x) (sym (ap (λ x. x.function) (p ∙ sym q))) (way_leads text w)))
   ways_same {f} {i} {k} {s} a one reached (onward m l w d) (directly e) =
       let p = (one_site f k s a reached e one).is in
       let q = (one_site m l s a (way_reached reached w) d one).is in
-      absurd (free f (subst (λ x. Leads (calls_of text) f x) (sym (ap (λ x. x.function) (p ∙ sym q))) (way_leads text w)))
+      absurd (free f (subst (λ x. Leads (functions_called text) f x) (sym (ap (λ x. x.function) (p ∙ sym q))) (way_leads text w)))
   ways_same {f} {i} {k} {s} a one reached (onward m l w e) (onward q j v d) =
       let x = one_site m l s a (way_reached reached w) e one in
       let y = one_site q j s a (way_reached reached v) d one in
@@ -242,7 +242,7 @@ module _ (text : Text) (t : SiteMaps) (free : (f : ℕ) → Leads (calls_of text
 
     -- the site itself, and a way to its function
     no_round : (f i k : ℕ) (j : CallSite) → j ≡ site_of f (suc i) → Way (effects_at text) f k j.function → ⊥
-    no_round f i k j e w = free f (subst (λ x. Leads (calls_of text) f x) (ap (λ x. x.function) e) (way_leads text w))
+    no_round f i k j e w = free f (subst (λ x. Leads (functions_called text) f x) (ap (λ x. x.function) e) (way_leads text w))
 
     hot_same : (f i k : ℕ) → Reached f → Hot f i → Hot f k → i ≡ k
     hot_same f i k reached a b =
@@ -257,14 +257,14 @@ module _ (text : Text) (t : SiteMaps) (free : (f : ℕ) → Leads (calls_of text
         a.way
 
     -- an instance that starts in f and names the global
-    starts_hot : (f i : ℕ) → Reached f → is_within (opened (t.calls f) (site_of f (suc i))) (t.globals g) ≡ true → Hot f i
+    starts_hot : (f i : ℕ) → Reached f → is_within (opened_sites (t.calls f) (site_of f (suc i))) (t.globals g) ≡ true → Hot f i
     starts_hot f i reached h = pick (t.globals g) refl
       where
         pick : (x : CallSites) → t.globals g ≡ x → Hot f i
         pick sites.None e =
-            absurd (within_some (opened (t.calls f) (site_of f (suc i))) (t.globals g) h (opened_some (t.calls f) (site_of f (suc i)) reached.0) e)
+            absurd (within_some (opened_sites (t.calls f) (site_of f (suc i))) (t.globals g) h (opened_some (t.calls f) (site_of f (suc i)) reached.0) e)
         pick (sites.One j) e =
-            let a = opened_one (t.calls f) (site_of f (suc i)) j reached.0 (subst (λ x. is_within (opened (t.calls f) (site_of f (suc i))) x ≡ true) e h) in
+            let a = opened_one (t.calls f) (site_of f (suc i)) j reached.0 (subst (λ x. is_within (opened_sites (t.calls f) (site_of f (suc i))) x ≡ true) e h) in
             record {
               instance = j;
               named = e;
@@ -286,7 +286,7 @@ module _ (text : Text) (t : SiteMaps) (free : (f : ℕ) → Leads (calls_of text
         }
 
     -- not both
-    one_start : (f i id k : ℕ) → Reached f → call_at (effects_at text f) i ≡ Some id → is_within (opened (t.calls f) (site_of f (suc i))) (t.globals g) ≡ true → Hot id k → ⊥
+    one_start : (f i id k : ℕ) → Reached f → call_at (effects_at text f) i ≡ Some id → is_within (opened_sites (t.calls f) (site_of f (suc i))) (t.globals g) ≡ true → Hot id k → ⊥
     one_start f i id k reached c h below =
         let own = starts_hot f i reached h in
         let j : below.instance ≡ own.instance = one_instance below.instance own.instance below.named own.named in
@@ -294,9 +294,9 @@ module _ (text : Text) (t : SiteMaps) (free : (f : ℕ) → Leads (calls_of text
         ⊎_elim (λ e. no_round f i i (site_of f (suc i)) refl (subst (λ x. Way (effects_at text) f i x) (ap (λ x. x.function) (sym e ∙ here)) (directly c)))
         (λ w. no_round f i i below.instance here (way_from (effects_at text) f i id c w)) below.way
       where
-        at : (own : Hot f i) → is_within (opened (t.calls f) (site_of f (suc i))) (t.globals g) ≡ true → own.instance ≡ site_of f (suc i)
+        at : (own : Hot f i) → is_within (opened_sites (t.calls f) (site_of f (suc i))) (t.globals g) ≡ true → own.instance ≡ site_of f (suc i)
         at own h =
-            let a = opened_one (t.calls f) (site_of f (suc i)) own.instance reached.0 (subst (λ x. is_within (opened (t.calls f) (site_of f (suc i))) x ≡ true) own.named h) in sym a.is
+            let a = opened_one (t.calls f) (site_of f (suc i)) own.instance reached.0 (subst (λ x. is_within (opened_sites (t.calls f) (site_of f (suc i))) x ≡ true) own.named h) in sym a.is
 
     -- what the naming of a function says
     pub record Good (f : ℕ) (v : TextAccess) : Type 0 where
@@ -310,7 +310,7 @@ module _ (text : Text) (t : SiteMaps) (free : (f : ℕ) → Leads (calls_of text
     ScopeLaws f b here [] (x ∷ xs) = ⊥
     ScopeLaws f b here (own ∷ owns) [] = ⊥
     ScopeLaws f b here (own ∷ owns) (x ∷ xs) =
-        (o : ℕ) × (o < b) × (here ≡ opened (t.calls f) (site_of f (suc o))) × (own ≡ true → is_within x (t.globals g) ≡ true) × ScopeLaws f o x owns xs
+        (o : ℕ) × (o < b) × (here ≡ opened_sites (t.calls f) (site_of f (suc o))) × (own ≡ true → is_within x (t.globals g) ≡ true) × ScopeLaws f o x owns xs
 
     -- an effect that opens none of them
     abbrev Apart : (f b : ℕ) (here : CallSites) (owns : List Bool) (round : List CallSites) → ScopeLaws f b here owns round → ℕ → Type 0
@@ -386,12 +386,12 @@ module _ (text : Text) (t : SiteMaps) (free : (f : ℕ) → Leads (calls_of text
         }
 
     -- a call, with the naming of the function
-    instances_of_start : (f p id : ℕ) (v : TextAccess) → Reached f → call_at (effects_at text f) p ≡ Some id → is_within (opened (t.calls f) (site_of f (suc p))) (t.texts id) ≡ true → Good id v →
+    instances_of_start : (f p id : ℕ) (v : TextAccess) → Reached f → call_at (effects_at text f) p ≡ Some id → is_within (opened_sites (t.calls f) (site_of f (suc p))) (t.texts id) ≡ true → Good id v →
         (accessing_instances v ≤ 1) × (1 ≤ accessing_instances v → Hot f p)
     instances_of_start f p id v reached c h good = pick v.own refl
       where
-        at : v.own ≡ true → is_within (opened (t.calls f) (site_of f (suc p))) (t.globals g) ≡ true
-        at e = within_trans (opened (t.calls f) (site_of f (suc p))) (t.texts id) (t.globals g) h (good.own e)
+        at : v.own ≡ true → is_within (opened_sites (t.calls f) (site_of f (suc p))) (t.globals g) ≡ true
+        at e = within_trans (opened_sites (t.calls f) (site_of f (suc p))) (t.texts id) (t.globals g) h (good.own e)
 
         pick : (b : Bool) → v.own ≡ b → (cond v.own (suc v.below) v.below ≤ 1) × (1 ≤ cond v.own (suc v.below) v.below → Hot f p)
         pick true e =
@@ -404,7 +404,7 @@ module _ (text : Text) (t : SiteMaps) (free : (f : ℕ) → Leads (calls_of text
     or_either false b h = inr h
 
     abbrev at_site : ℕ → ℕ → CallSites
-    at_site f p = opened (t.calls f) (site_of f (suc p))
+    at_site f p = opened_sites (t.calls f) (site_of f (suc p))
 
     -- no block begins or ends
     read_on : (f p : ℕ) (r : AccessScan) (own : Bool) (below : ℕ) (inside : InstanceView) (read : Read f p r inside) → (own ≡ true → is_within inside.here (t.globals g) ≡ true) → More f p r inside read below →
@@ -418,7 +418,7 @@ module _ (text : Text) (t : SiteMaps) (free : (f : ℕ) → Leads (calls_of text
     -- a block ends
     read_closed : (f p : ℕ) (own : Bool) (below : ℕ) (owns : List Bool) (here : CallSites) (xs : List CallSites) → Reached f →
         Read f p (record { own = own; below = below; round = owns }) (record { here = here; round = xs }) →
-        Read f (suc p) (closed (record { own = own; below = below; round = owns }) owns) (left here xs)
+        Read f (suc p) (closed (record { own = own; below = below; round = owns }) owns) (view_after_block here xs)
     read_closed f p own below [] here [] reached read =
         read_on f p (record { own = own; below = below; round = [] }) own below (record { here = here; round = [] }) read read.own
         (same_more f p (record { own = own; below = below; round = [] }) (record { here = here; round = [] }) read)
@@ -488,7 +488,7 @@ module _ (text : Text) (t : SiteMaps) (free : (f : ℕ) → Leads (calls_of text
 
       -- a whole body
       read_body : (f p : ℕ) (es : List Effect) (r : AccessScan) (inside : InstanceView) → Reached f → Somewhere inside → ((i s : ℕ) → call_at es i ≡ Some s → call_at (effects_at text f) (p + i) ≡ Some s) →
-          Settled t f (suc p) inside es → Read f p r inside → Good f (as_access (scan_effects g called r es))
+          HoldsEffects t f (suc p) inside es → Read f p r inside → Good f (as_access (scan_effects g called r es))
       read_body f p [] r inside reached some at h read =
           record {
             own = λ e. subst (λ y. is_within y (t.globals g) ≡ true) (here_is f p inside.here r.round inside.round h read.frames) (read.own e);
@@ -502,9 +502,9 @@ module _ (text : Text) (t : SiteMaps) (free : (f : ℕ) → Leads (calls_of text
           (λ i s c. let on : p + suc i ≡ suc p + i = omega arith in subst (λ n. call_at (effects_at text f) n ≡ Some s) on (at (suc i) s c)) h.1
           (read_next f p e r inside reached some (λ s c. subst (λ n. call_at (effects_at text f) n ≡ Some s) zero_on (at 0 s c)) h.0 read)
 
-    naming_is : (called : ℕ → TextAccess) (x : Option PlainFunction) → as_access (scan_effects g called start (effects_in text x)) ≡ body_access text g called x
+    naming_is : (called : ℕ → TextAccess) (x : Option PlainFunction) → as_access (scan_effects g called scan_start (effects_in text x)) ≡ body_access text g called x
     naming_is called None = refl
-    naming_is called (Some x) = ap as_access (effects_tell g called start (in_function text x))
+    naming_is called (Some x) = ap as_access (effects_tell g called scan_start (in_function text x))
 
     all_good : (n f : ℕ) → Reached f → Good f (within no_access (access_step text g) n f)
     unfolding within
@@ -513,7 +513,7 @@ module _ (text : Text) (t : SiteMaps) (free : (f : ℕ) → Leads (calls_of text
     all_good (suc n) f reached =
         let called = within no_access (access_step text g) n in
         subst (λ v. Good f v) (naming_is called (find_function f text))
-        (read_body called (all_good n) f 0 (effects_at text f) start (record { here = t.texts f; round = [] }) reached (reached.1, tt)
+        (read_body called (all_good n) f 0 (effects_at text f) scan_start (record { here = t.texts f; round = [] }) reached (reached.1, tt)
         (λ i s c. let on : i ≡ 0 + i = omega arith in subst (λ m. call_at (effects_at text f) m ≡ Some s) on c) (settled f reached.0)
         (record { own = λ e. absurd (let q : false ≡ true = e in cc); frames = refl; below = omega arith; hot = λ l. absurd (omega arith) }))
 
@@ -548,7 +548,7 @@ module _ (text : Text) (t : SiteMaps) (free : (f : ℕ) → Leads (calls_of text
                 let named = start_is root (within_trans (sites.One root) (t.texts first) (t.globals g) texts (good.own e)) in
                 let j : hot.instance ≡ root = one_instance hot.instance root hot.named named in
                 ⊎_elim (λ d. let q : 0 ≡ suc i = ap (λ x. x.effect) (sym j ∙ d) in absurd (omega (arith, q)))
-                (λ w. free first (subst (λ x. Leads (calls_of text) first x) (ap (λ x. x.function) j) (way_leads text w))) hot.way
+                (λ w. free first (subst (λ x. Leads (functions_called text) first x) (ap (λ x. x.function) j) (way_leads text w))) hot.way
 
             by : (b : Bool) → v.own ≡ b → cond v.own (suc v.below) v.below ≤ 1
             by true e = let n : v.below ≤ 0 = below_zero v.below (λ l. let k = good.hot l in none e k.0 k.1) in rw e (omega (arith, n))

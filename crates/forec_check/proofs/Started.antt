@@ -8,11 +8,11 @@ use Rattle.forec_tree.specs.declared.uses.How.TheVariants as how
 use Rattle.forec_tree.specs.declared.uses.Meaning.{Meaning}
 use Rattle.forec_tree.specs.declared.uses.Meaning.TheVariants as means
 use Rattle.forec_tree.specs.Terms.{Text, PlainItem, IsGlobal, IsFunction, PlainFunction, Statement, Declare, Nothing, Group, Assign, Invoke, If, While, For, Pause, Par, Abort, Return, Statements, no_statements, more_statements, Perhaps, absent, present, Branches, no_branches, by_call, by_group, count_terms}
-use Rattle.forec_tree.specs.Scopes.{Scope, no_scope, entered, after, after_perhaps, name_of, find_item, meaning}
+use Rattle.forec_tree.specs.Scopes.{Scope, no_scope, inner_scope, after, after_perhaps, name_of, find_item, meaning}
 use Rattle.forec_tree.specs.Findings as finding
 use Rattle.forec_tree.specs.Findings.{Finding, Use, use_at, in_bound, in_terms, in_term, in_optional, in_statement, in_statements, in_perhaps, in_branches}
 use Rattle.forec_tree.specs.Rules.{Judging, use_faults, finding_faults, findings_faults}
-use Rattle.forec_tree.specs.Pauses.{started, all_started, perhaps_started, branches_started}
+use Rattle.forec_tree.specs.Pauses.{started_names, all_started, perhaps_started, branches_started}
 use Rattle.forec_tree.specs.Faults.{is_in, called_in}
 use Rattle.forec_tree.proofs.FindingFaults.{findings-append}
 use Rattle.loop_check.proofs.IndexLemmas.{split}
@@ -91,52 +91,52 @@ only g n h = split (n == g) (λ e. eqb-true n g e) (λ e. absurd (let q : false 
 
 module _ (j : Judging) (text : Text) where
   mutual
-    pub calls : (s : Scope) (a : Statement) → Clean j (in_statement text s a) → (g : ℕ) → is_in g (started a) ≡ true → is_in g (called_in (in_statement text s a)) ≡ true
+    pub calls : (s : Scope) (a : Statement) → Clean j (in_statement text s a) → (g : ℕ) → is_in g (started_names a) ≡ true → is_in g (called_in (in_statement text s a)) ≡ true
     calls s (Nothing at) c g h = absurd (let q : false ≡ true = h in cc)
-    calls s (Group at body) c g h = calls_all (entered s) body c g h
+    calls s (Group at body) c g h = calls_all (inner_scope s) body c g h
     calls s (Declare at locals) c g h = absurd (let q : false ≡ true = h in cc)
     calls s (Assign at target op value) c g h = absurd (let q : false ≡ true = h in cc)
     calls s (Invoke at name args) c g h =
         subst (λ x. is_in x (called_in (in_statement text s (Invoke at name args))) ≡ true) (only g name.id h)
         (runs_call j (count_terms args) name (meaning text s name.id) (in_terms text s args) c)
     calls s (If at test a b) c g h =
-        let c1 = clean_right j (in_term text s test) (in_statement text (entered s) a ++ in_perhaps text (entered s) b) c in
-        let ca = clean_left j (in_statement text (entered s) a) (in_perhaps text (entered s) b) c1 in
-        let cb = clean_right j (in_statement text (entered s) a) (in_perhaps text (entered s) b) c1 in
-        let x = calls (entered s) a ca g in
-        let y = calls_perhaps (entered s) b cb g in
-        called_right g (in_term text s test) (in_statement text (entered s) a ++ in_perhaps text (entered s) b)
-        (⊎_elim (λ i. called_left g (in_statement text (entered s) a) (in_perhaps text (entered s) b) (x i))
-        (λ i. called_right g (in_statement text (entered s) a) (in_perhaps text (entered s) b) (y i)) (either g (started a) (perhaps_started b) h))
+        let c1 = clean_right j (in_term text s test) (in_statement text (inner_scope s) a ++ in_perhaps text (inner_scope s) b) c in
+        let ca = clean_left j (in_statement text (inner_scope s) a) (in_perhaps text (inner_scope s) b) c1 in
+        let cb = clean_right j (in_statement text (inner_scope s) a) (in_perhaps text (inner_scope s) b) c1 in
+        let x = calls (inner_scope s) a ca g in
+        let y = calls_perhaps (inner_scope s) b cb g in
+        called_right g (in_term text s test) (in_statement text (inner_scope s) a ++ in_perhaps text (inner_scope s) b)
+        (⊎_elim (λ i. called_left g (in_statement text (inner_scope s) a) (in_perhaps text (inner_scope s) b) (x i))
+        (λ i. called_right g (in_statement text (inner_scope s) a) (in_perhaps text (inner_scope s) b) (y i)) (either g (started_names a) (perhaps_started b) h))
     calls s (While at test bound body) c g h =
-        let rest = in_term text s test ++ in_statement text (entered s) body in
+        let rest = in_term text s test ++ in_statement text (inner_scope s) body in
         let c1 = clean_right j (in_bound bound) rest c in
-        let x = calls (entered s) body (clean_right j (in_term text s test) (in_statement text (entered s) body) c1) g h in
-        called_right g (in_bound bound) rest (called_right g (in_term text s test) (in_statement text (entered s) body) x)
+        let x = calls (inner_scope s) body (clean_right j (in_term text s test) (in_statement text (inner_scope s) body) c1) g h in
+        called_right g (in_bound bound) rest (called_right g (in_term text s test) (in_statement text (inner_scope s) body) x)
     calls s (For at start test step bound body) c g h =
-        let inside = after_perhaps (entered s) start in
-        let p1 = in_perhaps text (entered s) start in
+        let inside = after_perhaps (inner_scope s) start in
+        let p1 = in_perhaps text (inner_scope s) start in
         let p2 = in_optional text inside test in
         let p3 = in_perhaps text inside step in
-        let p4 = in_statement text (entered (after_perhaps inside step)) body in
+        let p4 = in_statement text (inner_scope (after_perhaps inside step)) body in
         let c1 = clean_right j (in_bound bound) (p1 ++ (p2 ++ (p3 ++ p4))) c in
         let c2 = clean_right j p1 (p2 ++ (p3 ++ p4)) c1 in
         let c3 = clean_right j p2 (p3 ++ p4) c2 in
-        let x1 = calls_perhaps (entered s) start (clean_left j p1 (p2 ++ (p3 ++ p4)) c1) g in
+        let x1 = calls_perhaps (inner_scope s) start (clean_left j p1 (p2 ++ (p3 ++ p4)) c1) g in
         let x3 = calls_perhaps inside step (clean_left j p3 p4 c3) g in
-        let x4 = calls (entered (after_perhaps inside step)) body (clean_right j p3 p4 c3) g in
+        let x4 = calls (inner_scope (after_perhaps inside step)) body (clean_right j p3 p4 c3) g in
         called_right g (in_bound bound) (p1 ++ (p2 ++ (p3 ++ p4)))
         (⊎_elim (λ i. called_left g p1 (p2 ++ (p3 ++ p4)) (x1 i))
         (λ i.
         called_right g p1 (p2 ++ (p3 ++ p4)) (called_right g p2 (p3 ++ p4)
-        (⊎_elim (λ k. called_left g p3 p4 (x3 k)) (λ k. called_right g p3 p4 (x4 k)) (either g (perhaps_started step) (started body) i))))
-        (either g (perhaps_started start) (perhaps_started step ++ started body) h))
+        (⊎_elim (λ k. called_left g p3 p4 (x3 k)) (λ k. called_right g p3 p4 (x4 k)) (either g (perhaps_started step) (started_names body) i))))
+        (either g (perhaps_started start) (perhaps_started step ++ started_names body) h))
     calls s (Pause at) c g h = absurd (let q : false ≡ true = h in cc)
     calls s (Par at bs) c g h = calls_branches s bs (clean_right j (finding.Synchronous at ∷ []) (in_branches text s bs) c) g h
     calls s (Abort at weak immediate test body) c g h =
-        let c1 = clean_right j (finding.Synchronous at ∷ []) (in_term text s test ++ in_statements text (entered s) body) c in
-        let x = calls_all (entered s) body (clean_right j (in_term text s test) (in_statements text (entered s) body) c1) g h in
-        called_right g (in_term text s test) (in_statements text (entered s) body) x
+        let c1 = clean_right j (finding.Synchronous at ∷ []) (in_term text s test ++ in_statements text (inner_scope s) body) c in
+        let x = calls_all (inner_scope s) body (clean_right j (in_term text s test) (in_statements text (inner_scope s) body) c1) g h in
+        called_right g (in_term text s test) (in_statements text (inner_scope s) body) x
     calls s (Return at value) c g h = absurd (let q : false ≡ true = h in cc)
 
     pub calls_all : (s : Scope) (a : Statements) → Clean j (in_statements text s a) → (g : ℕ) → is_in g (all_started a) ≡ true → is_in g (called_in (in_statements text s a)) ≡ true
@@ -145,7 +145,7 @@ module _ (j : Judging) (text : Text) where
         let x = calls s a (clean_left j (in_statement text s a) (in_statements text (after s a) rest) c) g in
         let y = calls_all (after s a) rest (clean_right j (in_statement text s a) (in_statements text (after s a) rest) c) g in
         ⊎_elim (λ i. called_left g (in_statement text s a) (in_statements text (after s a) rest) (x i))
-        (λ i. called_right g (in_statement text s a) (in_statements text (after s a) rest) (y i)) (either g (started a) (all_started rest) h)
+        (λ i. called_right g (in_statement text s a) (in_statements text (after s a) rest) (y i)) (either g (started_names a) (all_started rest) h)
 
     pub calls_perhaps : (s : Scope) (a : Perhaps) → Clean j (in_perhaps text s a) → (g : ℕ) → is_in g (perhaps_started a) ≡ true → is_in g (called_in (in_perhaps text s a)) ≡ true
     calls_perhaps s absent c g h = absurd (let q : false ≡ true = h in cc)

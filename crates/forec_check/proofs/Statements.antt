@@ -6,7 +6,7 @@ use Rattle.forec_tree.specs.declared.tree.Expr.{Expr}
 use Rattle.forec_tree.specs.declared.tree.Target.{Target}
 use Rattle.forec_tree.specs.declared.uses.How.TheVariants.{Writes, WritesAt, Runs}
 use Rattle.forec_tree.specs.Terms.{Text}
-use Rattle.forec_tree.specs.Scopes.{Scope, entered, after, with_name, with_locals, is_array, is_among}
+use Rattle.forec_tree.specs.Scopes.{Scope, inner_scope, after, with_name, with_locals, is_array, is_among}
 use Rattle.forec_tree.specs.Terms as plain
 use Rattle.forec_tree.specs.declared.tree.Stmt.{Stmt}
 use Rattle.forec_tree.specs.declared.tree.Local.{Local}
@@ -14,7 +14,7 @@ use Rattle.forec_tree.specs.declared.tree.Number.{Number}
 use Rattle.forec_tree.specs.declared.tree.StmtKind.{StmtKind, Group, Abort, If}
 use Rattle.std.specs.declared.boxed.Box.{Box}
 use Rattle.std.specs.declared.alloc.Global.{Global}
-use Rattle.forec_tree.specs.Plain.{term, terms, written, optional_term, declared, statement, statements, statement_at}
+use Rattle.forec_tree.specs.Plain.{term, terms, written_target, optional_term, declared, statement, statements, statement_at}
 use Rattle.forec_tree.specs.Findings.{Finding, Declares, Loop, Synchronous, use_at, in_term, in_terms, in_target, in_bound, in_local, in_locals, in_statement, in_statements}
 use Rattle.forec_tree.specs.Rules.{Judging}
 use Rattle.forec_check.specs.Walk.{NotesView, walked}
@@ -29,11 +29,11 @@ module _ (j : Judging) (text : Text) (s : Scope) where
   target_as name index = in_target text s (record { name = name; index = optional_term index })
 
   pub target_none : (t : Target) (kept new : NotesView) → t.index ≡ None → new ≡ walked j (use_at text s Writes t.name ∷ []) kept →
-      new ≡ walked j (in_target text s (written t)) kept
+      new ≡ walked j (in_target text s (written_target t)) kept
   target_none t kept new h g = g ∙ ap (λ i. walked j (target_as t.name i) kept) (sym h)
 
   pub target_some : (t : Target) (i : Expr) (kept one new : NotesView) → t.index ≡ Some i → one ≡ walked j (use_at text s WritesAt t.name ∷ []) kept →
-      new ≡ walked j (in_term text s (term i)) one → new ≡ walked j (in_target text s (written t)) kept
+      new ≡ walked j (in_term text s (term i)) one → new ≡ walked j (in_target text s (written_target t)) kept
   target_some t i kept one new h g f =
       then j (use_at text s WritesAt t.name) (in_term text s (term i)) kept one new g f ∙ ap (λ x. walked j (target_as t.name x) kept) (sym h)
 
@@ -42,10 +42,10 @@ module _ (j : Judging) (text : Text) (s : Scope) where
   of_statement kept new st w h g = g ∙ ap (λ x. walked j (in_statement text s (statement_at x st.place)) kept) (sym h)
 
   pub group_is : (kept new : NotesView) (at : Place) (body list : List Stmt) → list ≡ body →
-      new ≡ walked j (in_statements text (entered s) (statements list)) kept →
+      new ≡ walked j (in_statements text (inner_scope s) (statements list)) kept →
       new ≡ walked j (in_statement text s (statement_at (Group body) at)) kept
   group_is kept new at body list h g =
-      g ∙ ap (λ x. walked j (in_statements text (entered s) (statements x)) kept) h
+      g ∙ ap (λ x. walked j (in_statements text (inner_scope s) (statements x)) kept) h
       ∙ ap (λ x. walked j (in_statement text s x) kept) (sym (statement-group body at))
 
   pub declare_is : (kept new : NotesView) (all list : List Local) → list ≡ all →
@@ -62,37 +62,37 @@ module _ (j : Judging) (text : Text) (s : Scope) where
 
   -- a statement inside that was read through a box
   pub inside : (r : Scope) (kept new : NotesView) (a b : Stmt) → r ≡ s → a ≡ b →
-      new ≡ walked j (in_statement text (entered r) (statement a)) kept → new ≡ walked j (in_statement text (entered s) (statement b)) kept
+      new ≡ walked j (in_statement text (inner_scope r) (statement a)) kept → new ≡ walked j (in_statement text (inner_scope s) (statement b)) kept
   inside r kept new a b q h g =
-      g ∙ ap (λ x. walked j (in_statement text (entered r) (statement x)) kept) h ∙ ap (λ x. walked j (in_statement text (entered x) (statement b)) kept) q
+      g ∙ ap (λ x. walked j (in_statement text (inner_scope r) (statement x)) kept) h ∙ ap (λ x. walked j (in_statement text (inner_scope x) (statement b)) kept) q
 
   -- the scope is the same again after a part
   pub last : (kept new : NotesView) (a : List Finding) → new ≡ walked j a kept → new ≡ walked j (a ++ []) kept
   last kept new a h = two j a [] kept new new h (sym (walked-none j new))
 
   pub if_none : (kept one new : NotesView) (test : Expr) (yes : Box Stmt Global) (no : Option (Box Stmt Global)) (at : Place) → no ≡ None →
-      one ≡ walked j (in_term text s (term test)) kept → new ≡ walked j (in_statement text (entered s) (statement yes.value)) one →
+      one ≡ walked j (in_term text s (term test)) kept → new ≡ walked j (in_statement text (inner_scope s) (statement yes.value)) one →
       new ≡ walked j (in_statement text s (statement_at (If test yes no) at)) kept
   if_none kept one new test then_ else_ at h g f =
-      two j (in_term text s (term test)) (in_statement text (entered s) (statement then_.value) ++ []) kept one new g (last one new _ f)
+      two j (in_term text s (term test)) (in_statement text (inner_scope s) (statement then_.value) ++ []) kept one new g (last one new _ f)
       ∙ ap (λ n. walked j (in_statement text s (statement_at (If test then_ n) at)) kept) (sym h)
 
   pub if_some : (kept one next new : NotesView) (test : Expr) (yes other : Box Stmt Global) (no : Option (Box Stmt Global)) (at : Place) → no ≡ Some other →
-      one ≡ walked j (in_term text s (term test)) kept → next ≡ walked j (in_statement text (entered s) (statement yes.value)) one →
-      new ≡ walked j (in_statement text (entered s) (statement other.value)) next →
+      one ≡ walked j (in_term text s (term test)) kept → next ≡ walked j (in_statement text (inner_scope s) (statement yes.value)) one →
+      new ≡ walked j (in_statement text (inner_scope s) (statement other.value)) next →
       new ≡ walked j (in_statement text s (statement_at (If test yes no) at)) kept
   if_some kept one next new test then_ other else_ at h g f e =
-      three j (in_term text s (term test)) (in_statement text (entered s) (statement then_.value)) (in_statement text (entered s) (statement other.value)) kept one next new g f e
+      three j (in_term text s (term test)) (in_statement text (inner_scope s) (statement then_.value)) (in_statement text (inner_scope s) (statement other.value)) kept one next new g f e
       ∙ ap (λ n. walked j (in_statement text s (statement_at (If test then_ n) at)) kept) (sym h)
 
   pub abort_is : (kept one next new : NotesView) (weak immediate : Bool) (test : Expr) (body list : List Stmt) (at : Place) → list ≡ body →
       one ≡ walked j (Synchronous at ∷ []) kept → next ≡ walked j (in_term text s (term test)) one →
-      new ≡ walked j (in_statements text (entered s) (statements list)) next →
+      new ≡ walked j (in_statements text (inner_scope s) (statements list)) next →
       new ≡ walked j (in_statement text s (statement_at (Abort weak immediate test body) at)) kept
   abort_is kept one next new weak immediate test body list at h g f e =
-      then j (Synchronous at) (in_term text s (term test) ++ in_statements text (entered s) (statements body)) kept one new g
-      (two j (in_term text s (term test)) (in_statements text (entered s) (statements body)) one next new f
-      (e ∙ ap (λ x. walked j (in_statements text (entered s) (statements x)) next) h))
+      then j (Synchronous at) (in_term text s (term test) ++ in_statements text (inner_scope s) (statements body)) kept one new g
+      (two j (in_term text s (term test)) (in_statements text (inner_scope s) (statements body)) one next new f
+      (e ∙ ap (λ x. walked j (in_statements text (inner_scope s) (statements x)) next) h))
       ∙ ap (λ x. walked j (in_statement text s x) kept) (sym (statement-abort weak immediate test body at))
 
   pub while_is : (kept one next new : NotesView) (loop : plain.Statement) (bound : Option Number) (a b : List Finding) →

@@ -7,7 +7,7 @@ use Rattle.std.specs.declared.alloc.Global.{Global}
 use Rattle.forec_base.specs.declared.Place.{Place}
 use Rattle.forec_tree.specs.Terms as plain
 use Rattle.forec_tree.specs.Terms.{Text}
-use Rattle.forec_tree.specs.Scopes.{Scope, no_scope, entered, after_perhaps}
+use Rattle.forec_tree.specs.Scopes.{Scope, no_scope, inner_scope, after_perhaps}
 use Rattle.forec_tree.specs.declared.tree.Name.{Name}
 use Rattle.forec_tree.specs.declared.tree.Number.{Number}
 use Rattle.forec_tree.specs.declared.tree.Expr.{Expr}

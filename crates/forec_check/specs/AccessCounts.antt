@@ -1,10 +1,10 @@
 -- Thread instances that name a global, counted up to two.
 use Rattle.std.specs.Prelude.{ℕ, ◌+◌, ◌<◌, ◌==◌, ◌≡◌, Bool, true, false, cond, ◌||◌, ◌&&◌, nat_lt, min, Option, Some, None, List, [], ◌∷◌, ◌++◌, reverse, length, take, slice_index_or}
-use Rattle.forec_check.specs.AccessScan.{TextAccess, AccessScan, no_access, closed, accessing_instances, as_access, access_step, namings}
+use Rattle.forec_check.specs.AccessScan.{TextAccess, AccessScan, no_access, closed, accessing_instances, as_access, access_step, program_namings}
 use Rattle.forec_tree.specs.Findings.{in_function}
 use Rattle.forec_tree.specs.Pauses.{within}
 use Rattle.forec_tree.specs.Rules.{fault_if, is_plain}
-use Rattle.forec_tree.specs.Faults.{is_in, Reaches}
+use Rattle.forec_tree.specs.Faults.{is_in, ReachesByCalls}
 use Rattle.forec_tree.specs.declared.fault.Fault.{Fault}
 use Rattle.forec_tree.specs.declared.rule.TheConstants as rule
 use Rattle.loop_check.specs.Known.{is_function}
@@ -17,8 +17,8 @@ use Rattle.forec_check.specs.declared.walk.effects.Effect.TheVariants as effect
 use Rattle.forec_check.specs.declared.instances.access_count.AccessCount.{AccessCount}
 
 -- counts past two are all one
-abbrev pub capped : TextAccess → TextAccess
-capped n = record { own = n.own; below = min n.below 2 }
+abbrev pub capped_access : TextAccess → TextAccess
+capped_access n = record { own = n.own; below = min n.below 2 }
 
 abbrev pub access_of : AccessCount → TextAccess
 access_of f = record { own = f.own; below = f.below }
@@ -45,23 +45,23 @@ module _ (g : ℕ) (called : ℕ → TextAccess) where
 
 -- the step of a table that counts up to two
 abbrev pub capped_step : Text → ℕ → (ℕ → TextAccess) → ℕ → TextAccess
-capped_step text g called id = capped (access_step text g called id)
+capped_step text g called id = capped_access (access_step text g called id)
 
 -- a table as the namings of functions
 abbrev pub called_access : List AccessCount → ℕ → TextAccess
-called_access table id = capped (access_at table id)
+called_access table id = capped_access (access_at table id)
 
 abbrev pub scan_of : AccessTally → AccessScan
 scan_of t = record { own = t.own; below = t.below; round = reverse t.round.items }
 
 -- the same up to two
-pub record Alike (a b : AccessScan) : Type 0 where
+pub record AlikeUpToTwo (a b : AccessScan) : Type 0 where
   pub own : a.own ≡ b.own
   pub below : min a.below 2 ≡ min b.below 2
   pub round : a.round ≡ b.round
 
 abbrev pub CountsEffect : AccessTally → AccessTally → ℕ → List AccessCount → Effect → Type 0
-CountsEffect old new g table e = (r : AccessScan) → Alike (scan_of old) r → Alike (scan_of new) (scan_effect g (called_access table) r e)
+CountsEffect old new g table e = (r : AccessScan) → AlikeUpToTwo (scan_of old) r → AlikeUpToTwo (scan_of new) (scan_effect g (called_access table) r e)
 
 -- the effects of a function; none where there is no function
 abbrev pub effects_in : Text → Option PlainFunction → List Effect
@@ -69,12 +69,12 @@ effects_in text None = []
 effects_in text (Some f) = effects_of (in_function text f)
 
 -- the naming of each function, up to two
-abbrev pub value_of : Text → ℕ → ℕ → TextAccess
-value_of text g = within no_access (capped_step text g) (length text)
+abbrev pub access_value : Text → ℕ → ℕ → TextAccess
+access_value text g = within no_access (capped_step text g) (length text)
 
 -- the faults of plain globals that two instances name
 abbrev pub access_fault : Text → List (List ℕ) → PlainItem → List Fault
-access_fault text names (IsGlobal g) = fault_if (is_plain g.kind && nat_lt 1 (namings text names g.name.id)) g.name.place rule.PLAIN_IN_TWO_THREADS
+access_fault text names (IsGlobal g) = fault_if (is_plain g.kind && nat_lt 1 (program_namings text names g.name.id)) g.name.place rule.PLAIN_IN_TWO_THREADS
 access_fault text names (IsFunction f) = []
 
 abbrev pub access_faults : Text → List (List ℕ) → List PlainItem → List Fault
@@ -83,6 +83,6 @@ access_faults text names (i ∷ rest) = access_fault text names i ++ access_faul
 
 -- all functions, in an order in which each one's naming follows from those before it
 pub record Orders (text : Text) (order : List ℕ) : Type 0 where
-  pub settles : (g : ℕ) → Settles no_access (capped_step text g) (value_of text g) order
+  pub settles : (g : ℕ) → Settles no_access (capped_step text g) (access_value text g) order
   pub whole : (f : ℕ) → is_function text f ≡ true → is_in f order ≡ true
-  pub free : (f : ℕ) → Reaches text f f → ⊥
+  pub free : (f : ℕ) → ReachesByCalls text f f → ⊥

@@ -28,8 +28,8 @@ pub record AccessScan : Type 0 where
   pub below : ℕ
   pub round : List Bool
 
-abbrev pub start : AccessScan
-start = record { own = false; below = 0; round = [] }
+abbrev pub scan_start : AccessScan
+scan_start = record { own = false; below = 0; round = [] }
 
 -- the end of a block that is a branch
 abbrev pub closed : AccessScan → List Bool → AccessScan
@@ -61,7 +61,7 @@ as_access r = record { own = r.own; below = r.below }
 
 abbrev pub body_access : Text → ℕ → (ℕ → TextAccess) → Option PlainFunction → TextAccess
 body_access text g called None = no_access
-body_access text g called (Some f) = as_access (scan_all g called start (in_function text f))
+body_access text g called (Some f) = as_access (scan_all g called scan_start (in_function text f))
 
 abbrev pub access_step : Text → ℕ → (ℕ → TextAccess) → ℕ → TextAccess
 access_step text g called id = body_access text g called (find_function id text)
@@ -71,5 +71,5 @@ abbrev pub instances_of : Text → ℕ → ℕ → ℕ
 instances_of text g first = accessing_instances (within no_access (access_step text g) (length text) first)
 
 -- the same of a whole program, where it has a `main`
-abbrev pub namings : Text → List (List ℕ) → ℕ → ℕ
-namings text names g = elim (start_name names text) [ None ↦ 0 | Some first ↦ instances_of text g first ]
+abbrev pub program_namings : Text → List (List ℕ) → ℕ → ℕ
+program_namings text names g = elim (start_name names text) [ None ↦ 0 | Some first ↦ instances_of text g first ]

@@ -27,14 +27,14 @@ is_within sites.Many sites.Many = true
 abbrev pub sites_at : List CallSites → ℕ → CallSites
 sites_at table id = slice_index_or table id sites.None
 
-abbrev pub none : CallSites
-none = sites.None
+abbrev pub no_sites : CallSites
+no_sites = sites.None
 
 -- the instances that start at a site, in a function that is called from some sites
-abbrev pub opened : CallSites → CallSite → CallSites
-opened sites.None site = sites.None
-opened (sites.One a) site = sites.One site
-opened sites.Many site = sites.Many
+abbrev pub opened_sites : CallSites → CallSite → CallSites
+opened_sites sites.None site = sites.None
+opened_sites (sites.One a) site = sites.One site
+opened_sites sites.Many site = sites.Many
 
 -- the tables by number
 pub record SiteMaps : Type 0 where
@@ -42,8 +42,8 @@ pub record SiteMaps : Type 0 where
   pub texts : ℕ → CallSites
   pub globals : ℕ → CallSites
 
-abbrev pub tables_of : SiteTables → SiteMaps
-tables_of t = record { calls = sites_at t.calls.items; texts = sites_at t.texts.items; globals = sites_at t.globals.items }
+abbrev pub site_maps : SiteTables → SiteMaps
+site_maps t = record { calls = sites_at t.calls.items; texts = sites_at t.texts.items; globals = sites_at t.globals.items }
 
 pub record SameTables (a b : SiteTables) : Type 0 where
   pub calls : b.calls.items ≡ a.calls.items
@@ -58,14 +58,14 @@ pub record InstanceView : Type 0 where
 abbrev pub instances_around : OpenInstances → InstanceView
 instances_around r = record { here = r.here; round = reverse r.round.items }
 
-abbrev pub left : CallSites → List CallSites → InstanceView
-left here [] = record { here = here; round = [] }
-left here (outer ∷ rest) = record { here = outer; round = rest }
+abbrev pub view_after_block : CallSites → List CallSites → InstanceView
+view_after_block here [] = record { here = here; round = [] }
+view_after_block here (outer ∷ rest) = record { here = outer; round = rest }
 
 -- where an effect leads
 abbrev pub inside_after : Effect → CallSites → InstanceView → InstanceView
 inside_after effect.Opens site r = record { here = site; round = r.here ∷ r.round }
-inside_after effect.Closes site r = left r.here r.round
+inside_after effect.Closes site r = view_after_block r.here r.round
 inside_after _ site r = r
 
 -- the tables hold what an effect tells
@@ -76,31 +76,31 @@ Holds t (effect.Starts id) site r = (is_within site (t.calls id) ≡ true) × (i
 Holds t _ site r = Unit {0}
 
 -- an effect moves nothing
-pub record Rests (t : SiteMaps) (e : Effect) (site : CallSites) (before after : InstanceView) : Type 0 where
+pub record MovesNothing (t : SiteMaps) (e : Effect) (site : CallSites) (before after : InstanceView) : Type 0 where
   pub holds : Holds t e site before
   pub next : after ≡ inside_after e site before
 
 -- the same of the tables and the instances as they are kept
 abbrev pub RestsAround : SiteTables → Effect → CallSites → OpenInstances → OpenInstances → Type 0
-RestsAround tables e site before after = Rests (tables_of tables) e site (instances_around before) (instances_around after)
+RestsAround tables e site before after = MovesNothing (site_maps tables) e site (instances_around before) (instances_around after)
 
 -- The tables hold what the effects from number n on of the body of f tell, and each block in it ends.
-abbrev pub Settled : SiteMaps → ℕ → ℕ → InstanceView → List Effect → Type 0
-Settled t f n r [] = r.round ≡ []
-Settled t f n r (e ∷ rest) =
-    Holds t e (opened (t.calls f) (record { function = f; effect = n })) r
-    × Settled t f (suc n) (inside_after e (opened (t.calls f) (record { function = f; effect = n })) r) rest
+abbrev pub HoldsEffects : SiteMaps → ℕ → ℕ → InstanceView → List Effect → Type 0
+HoldsEffects t f n r [] = r.round ≡ []
+HoldsEffects t f n r (e ∷ rest) =
+    Holds t e (opened_sites (t.calls f) (record { function = f; effect = n })) r
+    × HoldsEffects t f (suc n) (inside_after e (opened_sites (t.calls f) (record { function = f; effect = n })) r) rest
 
 -- the text of a function outside of its blocks
 abbrev pub outermost : SiteMaps → ℕ → InstanceView
 outermost t f = record { here = t.texts f; round = [] }
 
 abbrev pub body_settled : Text → SiteMaps → ℕ → Type 0
-body_settled text t f = Settled t f 1 (outermost t f) (effects_in text (find_function f text))
+body_settled text t f = HoldsEffects t f 1 (outermost t f) (effects_in text (find_function f text))
 
 -- the tables hold what the body of a function tells, where it is called
 abbrev pub SettlesCalled : Text → SiteTables → ℕ → Type 0
-SettlesCalled text tables f = (tables_of tables).calls f ≢ sites.None → body_settled text (tables_of tables) f
+SettlesCalled text tables f = (site_maps tables).calls f ≢ sites.None → body_settled text (site_maps tables) f
 
 -- where a program starts
 abbrev pub start_site : ℕ → CallSites

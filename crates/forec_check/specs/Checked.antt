@@ -10,27 +10,27 @@ use Rattle.forec_check.specs.declared.check_fault.CheckFault.{CheckFault}
 use Rattle.forec_check.specs.declared.check_fault.CheckFault.TheVariants as fault
 
 -- the text of a checked program, and the names that it keeps
-abbrev pub text_of : Checked → Text
-text_of c = program c.program
+abbrev pub checked_text : Checked → Text
+checked_text c = program c.program
 
 abbrev pub names_of : Checked → List (List ℕ)
 names_of c = c.names.now
 
 -- a refusal tells the least fault; out of memory is free
-abbrev pub Causes : CheckFault → Text → List (List ℕ) → Type 0
-Causes (fault.Broken place rule) text names = IsLeast (record { place = place; rule = rule }) (IsFault text names)
-Causes fault.OutOfMemory text names = Unit {0}
+abbrev pub HasCheckCause : CheckFault → Text → List (List ℕ) → Type 0
+HasCheckCause (fault.Broken place rule) text names = IsLeast (record { place = place; rule = rule }) (IsFault text names)
+HasCheckCause fault.OutOfMemory text names = Unit {0}
 
 -- how many inputs there are, and how many outputs, where each element of an array is one
-abbrev pub inputs_of : Text → ℕ
-inputs_of [] = 0
-inputs_of (IsGlobal g ∷ rest) = one_if (is_input g.kind) + inputs_of rest
-inputs_of (IsFunction f ∷ rest) = inputs_of rest
+abbrev pub count_inputs : Text → ℕ
+count_inputs [] = 0
+count_inputs (IsGlobal g ∷ rest) = one_if (is_input g.kind) + count_inputs rest
+count_inputs (IsFunction f ∷ rest) = count_inputs rest
 
 abbrev pub item_outputs : PlainItem → ℕ
 item_outputs (IsGlobal g) = output_count g
 item_outputs (IsFunction f) = 0
 
-abbrev pub outputs_of : Text → ℕ
-outputs_of [] = 0
-outputs_of (i ∷ rest) = item_outputs i + outputs_of rest
+abbrev pub count_outputs : Text → ℕ
+count_outputs [] = 0
+count_outputs (i ∷ rest) = item_outputs i + count_outputs rest

@@ -3,14 +3,14 @@ use Rattle.std.specs.Prelude.{ℕ, suc, ◌==◌, ◌<◌, ◌≡◌, Bool, fals
 use Rattle.forec_tree.specs.declared.uses.Seen.{Seen}
 use Rattle.forec_check.specs.declared.scopes.declaration.Declaration.{Declaration}
 
-abbrev pub blank : Declaration
-blank = record { id = 0; array = false; before = 0 }
+abbrev pub blank_declaration : Declaration
+blank_declaration = record { id = 0; array = false; before = 0 }
 
 abbrev pub id_of : Declaration → ℕ
 id_of e = e.id
 
-abbrev pub seen : Declaration → Seen
-seen e = record { id = e.id; array = e.array }
+abbrev pub seen_name : Declaration → Seen
+seen_name e = record { id = e.id; array = e.array }
 
 -- where the last entry of a name stands, counted from 1; `found` where there is none
 abbrev pub last_from : ℕ → ℕ → ℕ → List Declaration → ℕ
@@ -21,8 +21,8 @@ abbrev pub last_of : ℕ → List Declaration → ℕ
 last_of id es = last_from id 0 0 es
 
 -- each entry knows the last one of its name before it
-abbrev pub Chained : List Declaration → Type 0
-Chained es = (k : ℕ) → k < length es → (slice_index_or es k blank).before ≡ last_of (slice_index_or es k blank).id (take k es)
+abbrev pub AreDeclarationsChained : List Declaration → Type 0
+AreDeclarationsChained es = (k : ℕ) → k < length es → (slice_index_or es k blank_declaration).before ≡ last_of (slice_index_or es k blank_declaration).id (take k es)
 
-abbrev pub pushed : List Declaration → ℕ → Bool → List Declaration
-pushed es id array = es ++ record { id = id; array = array; before = last_of id es } ∷ []
+abbrev pub pushed_declaration : List Declaration → ℕ → Bool → List Declaration
+pushed_declaration es id array = es ++ record { id = id; array = array; before = last_of id es } ∷ []

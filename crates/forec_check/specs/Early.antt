@@ -4,7 +4,7 @@ use Rattle.forec_tree.specs.declared.fault.Fault.{Fault}
 use Rattle.forec_tree.specs.declared.rule.TheConstants as rule
 use Rattle.forec_tree.specs.Terms.{Text, PlainFunction, PlainItem, IsFunction}
 use Rattle.forec_tree.specs.Scopes.{find_item}
-use Rattle.forec_tree.specs.Faults.{Member, Reaches, IsLeast, is_before, text_faults, called_in, in_function}
+use Rattle.forec_tree.specs.Faults.{Member, ReachesByCalls, IsLeast, is_before, text_faults, called_in, in_function}
 use Rattle.loop_check.specs.declared.table.Calls.{Calls}
 use Rattle.loop_check.specs.Graph.{callees}
 use Rattle.loop_check.specs.Known.{Read}
@@ -21,12 +21,12 @@ effect_calls (effect.Accesses id ∷ rest) = effect_calls rest
 effect_calls (effect.Opens ∷ rest) = effect_calls rest
 effect_calls (effect.Closes ∷ rest) = effect_calls rest
 
-abbrev pub calls_in : Text → PlainFunction → List ℕ
-calls_in text f = called_in (in_function text f)
+abbrev pub function_calls : Text → PlainFunction → List ℕ
+function_calls text f = called_in (in_function text f)
 
 -- the calls as they are kept: all functions of a text, and those that each calls or starts
 abbrev pub KnowsCalls : Text → Calls → Type 0
-KnowsCalls text calls = Read (calls_in text) text calls.functions.items (callees calls.lists.items)
+KnowsCalls text calls = Read (function_calls text) text calls.functions.items (callees calls.lists.items)
 
 -- a fault is less than the one kept, if any
 abbrev pub improves : Option Fault → Fault → Bool
@@ -34,16 +34,16 @@ improves None f = true
 improves (Some kept) f = is_before f kept
 
 -- none of a set, or its least
-abbrev pub Kept : Option Fault → (Fault → Type 0) → Type 0
-Kept None Is = (f : Fault) → Is f → ⊥
-Kept (Some m) Is = IsLeast m Is
+abbrev pub IsLeastOrNone : Option Fault → (Fault → Type 0) → Type 0
+IsLeastOrNone None Is = (f : Fault) → Is f → ⊥
+IsLeastOrNone (Some m) Is = IsLeast m Is
 
 -- a function among some items that reaches itself
 pub record RecursiveIn (text : Text) (xs : List PlainItem) (fault : Fault) : Type 0 where
   pub function : PlainFunction
   pub stands : Member (IsFunction function) xs
   pub first : find_item function.name.id text ≡ Some (IsFunction function)
-  pub reaches : Reaches text function.name.id function.name.id
+  pub reaches : ReachesByCalls text function.name.id function.name.id
   pub is : fault ≡ record { place = function.name.place; rule = rule.CALLS_ITSELF }
 
 abbrev pub EarlyTo : Text → List (List ℕ) → List PlainItem → Fault → Type 0

@@ -16,9 +16,9 @@ unfoldable pub count_of : Text → ℕ → ℕ
 count_of text = within 0 (capped_below text) (length text)
 
 -- the number of the name `main`
-abbrev pub start_of : List (List ℕ) → Text → ℕ
-start_of names text = elim (start_name names text) [ None ↦ 0 | Some first ↦ first ]
+abbrev pub main_number : List (List ℕ) → Text → ℕ
+main_number names text = elim (start_name names text) [ None ↦ 0 | Some first ↦ first ]
 
 -- the thread instances of a program, at most the greatest number of 64 bits
-abbrev pub threads_of : Text → List (List ℕ) → ℕ
-threads_of text names = min (instances text (start_of names text)) (2 ^ 64 - 1)
+abbrev pub thread_count : Text → List (List ℕ) → ℕ
+thread_count text names = min (instances text (main_number names text)) (2 ^ 64 - 1)

@@ -7,7 +7,7 @@ use Rattle.forec_tree.specs.declared.tree.Function.{Function}
 use Rattle.forec_tree.specs.declared.tree.Item.{Item}
 use Rattle.forec_tree.specs.Plain as plain
 use Rattle.forec_tree.specs.Terms.{Text, PlainItem, IsGlobal, IsFunction, PlainFunction}
-use Rattle.forec_tree.specs.Rules.{is_input, is_long, fault_if, some_returns}
+use Rattle.forec_tree.specs.Rules.{is_input, is_long, fault_if, some_always_returns}
 use Rattle.forec_tree.specs.Faults.{Before, none_before, in_function, item_named, one_if, output_count, runs_over, global_faults, function_faults, item_faults, items_faults}
 use Rattle.forec_tree.specs.declared.fault.Fault.{Fault}
 use Rattle.forec_tree.specs.declared.rule.TheConstants as rule
@@ -35,7 +35,7 @@ head_faults text names b f =
     ++ (fault_if (is_long names f.name.id) f.name.place rule.LONG_NAME
     ++ (fault_if (nat_lt MAX_PARAMS (length f.params)) f.name.place rule.TOO_MANY_PARAMS
     ++ (fault_if (nat_le MAX_FUNCTIONS b.functions) f.name.place rule.TOO_MANY_FUNCTIONS
-    ++ fault_if (f.gives && not (some_returns f.body)) f.name.place rule.INT_WITHOUT_VALUE)))
+    ++ fault_if (f.gives && not (some_always_returns f.body)) f.name.place rule.INT_WITHOUT_VALUE)))
 
 -- ---- from the least fault before to that after: of a global, the head of a function, a function, an item, all items
 

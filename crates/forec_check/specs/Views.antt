@@ -5,11 +5,11 @@ use Rattle.forec_tree.specs.Scopes as scopes
 use Rattle.forec_tree.specs.Scopes.{find_last}
 use Rattle.forec_tree.specs.Rules.{Judging}
 use Rattle.forec_tree.specs.Terms.{Text}
-use Rattle.loop_check.specs.Views.{text_of}
+use Rattle.loop_check.specs.Views.{indexed_text}
 use Rattle.forec_check.specs.declared.walk.context.Context.{Context}
 use Rattle.forec_check.specs.declared.symbols.Symbols.{Symbols}
 use Rattle.forec_check.specs.declared.scopes.scope.Scope.{Scope}
-use Rattle.forec_check.specs.Declarations.{seen}
+use Rattle.forec_check.specs.Declarations.{seen_name}
 
 abbrev pub judging : List (List ℕ) → Bool → Judging
 judging names gives = record { names = names; gives = gives }
@@ -19,18 +19,18 @@ abbrev pub judging_in : Context → Judging
 judging_in c = judging c.names.now c.gives
 
 abbrev pub text_in : Context → Text
-text_in c = text_of c.index.now
+text_in c = indexed_text c.index.now
 
 -- the program whose names these are, and their texts
 abbrev pub program_text : Symbols → Text
-program_text s = text_of s.index.now
+program_text s = indexed_text s.index.now
 
 abbrev pub program_names : Symbols → List (List ℕ)
 program_names s = s.names.now
 
 -- the entries from `base` to `start` are those of the scopes outside
 abbrev pub scope_of : Scope → scopes.Scope
-scope_of s = record { outer = map seen (drop s.base (take s.start s.declared.list.items)); here = map seen (drop s.start s.declared.list.items) }
+scope_of s = record { outer = map seen_name (drop s.base (take s.start s.declared.list.items)); here = map seen_name (drop s.start s.declared.list.items) }
 
 abbrev pub array_of_seen : Option Seen → Option Bool
 array_of_seen None = None

@@ -34,7 +34,7 @@ abbrev pub WalksOptionalExpression : Context → Scope → Option Expr → Notes
 WalksOptionalExpression c s e old new = notes_of new ≡ walked (judging_in c) (in_optional (text_in c) s (plain.optional_term e)) (notes_of old)
 
 abbrev pub WalksTarget : Context → Scope → Target → Notes → Notes → Type 0
-WalksTarget c s to old new = notes_of new ≡ walked (judging_in c) (in_target (text_in c) s (plain.written to)) (notes_of old)
+WalksTarget c s to old new = notes_of new ≡ walked (judging_in c) (in_target (text_in c) s (plain.written_target to)) (notes_of old)
 
 -- ---- declarations
 

@@ -3,7 +3,7 @@
 ghost use Rattle.std.specs.Prelude.{◌≡◌, length, IfOk, IfErr};
 ghost use Rattle.forec_tree.specs.Plain as plain;
 ghost use Rattle.forec_check.specs.Faultless.{Distinct, IdsBelow};
-ghost use Rattle.forec_check.specs.Checked.{text_of, names_of, Causes};
+ghost use Rattle.forec_check.specs.Checked.{checked_text, names_of, HasCheckCause};
 
 use crate::check_fault::CheckFault;
 use crate::checked::Checked;
@@ -22,9 +22,9 @@ pub fn check<'n>(
 ) -> Result<Checked<'n>, CheckFault>
     requires distinct { Distinct names.now }
     requires below { IdsBelow (plain.program program) (length names.now) }
-    ensures program { IfOk result (λ c. text_of c ≡ plain.program program) }
+    ensures program { IfOk result (λ c. checked_text c ≡ plain.program program) }
     ensures names { IfOk result (λ c. names_of c ≡ names.now) }
-    ensures fault { IfErr result (λ e. Causes e (plain.program program) names.now) }
+    ensures fault { IfErr result (λ e. HasCheckCause e (plain.program program) names.now) }
 {
     match least_fault(alloc, &program, names) {
         Err(_) => Err(CheckFault::OutOfMemory),

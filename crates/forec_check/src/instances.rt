@@ -8,7 +8,7 @@ ghost use Rattle.forec_tree.specs.Plain.{perhaps_of};
 ghost use Rattle.forec_tree.specs.Pauses.{callees_of};
 ghost use Rattle.forec_tree.specs.Faults.{Leads};
 ghost use Rattle.forec_tree.specs.Threads as threads;
-ghost use Rattle.loop_check.specs.Views.{text_of};
+ghost use Rattle.loop_check.specs.Views.{indexed_text};
 ghost use Rattle.forec_check.specs.Table.{Settles};
 ghost use Rattle.forec_check.specs.Instances.{count_at, capped_below, count_of};
 
@@ -107,7 +107,7 @@ fn count_branches(table: &[u64], list: &[Branch]) -> u64
 }
 
 fn count_function(index: &Index<'_>, table: &[u64], id: u32) -> u64
-    ensures { result ≡ capped_below (text_of index.now) (count_at table.now) id }
+    ensures { result ≡ capped_below (indexed_text index.now) (count_at table.now) id }
 {
     match find_function(index, id) {
         None => 0,
@@ -117,8 +117,8 @@ fn count_function(index: &Index<'_>, table: &[u64], id: u32) -> u64
 
 /// How many instances start in each function, each after those that it calls or starts.
 fn counts(alloc: Global, index: &Index<'_>, order: &[u32]) -> Result<Vec<u64>, OutOfMemory>
-    requires { Settles 0 (capped_below (text_of index.now)) (count_of (text_of index.now)) order.now }
-    ensures { IfOk result (λ table. (id : ℕ) → count_at table.items id ≡ count_of (text_of index.now) id) }
+    requires { Settles 0 (capped_below (indexed_text index.now)) (count_of (indexed_text index.now)) order.now }
+    ensures { IfOk result (λ table. (id : ℕ) → count_at table.items id ≡ count_of (indexed_text index.now) id) }
 {
     let mut table = Vec::new(alloc);
     for f in order {

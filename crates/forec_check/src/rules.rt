@@ -18,10 +18,10 @@ ghost use Rattle.std.specs.Prelude.{◌≡◌, ◌++◌, [], None, Some, map, If
 ghost use Rattle.forec_tree.specs.Plain as plain;
 ghost use Rattle.forec_tree.specs.Faults.{IsEarly, IsFault, start_name};
 ghost use Rattle.forec_check.specs.Least.{least_from};
-ghost use Rattle.loop_check.specs.Views.{text_of};
+ghost use Rattle.loop_check.specs.Views.{indexed_text};
 ghost use Rattle.forec_check.specs.Views.{program_text, program_names};
 ghost use Rattle.forec_check.specs.Walk.{item_effects, effects_lists};
-ghost use Rattle.forec_check.specs.Early.{Kept, KnowsCalls};
+ghost use Rattle.forec_check.specs.Early.{IsLeastOrNone, KnowsCalls};
 ghost use Rattle.forec_check.specs.Loops.{all_loops, loops_faults};
 ghost use Rattle.forec_check.specs.AccessCounts.{access_faults, Orders};
 
@@ -83,12 +83,12 @@ fn least_late(
     program_notes: &ProgramNotes,
     calls: &Calls,
 ) -> Result<Option<Fault>, OutOfMemory>
-    requires items { map plain.plain_item items.now ≡ text_of index.now }
-    requires early { Kept None (IsEarly (text_of index.now) names.now) }
-    requires bodies { effects_lists program_notes.now.bodies.items ≡ map (item_effects (text_of index.now)) (text_of index.now) }
-    requires read { KnowsCalls (text_of index.now) calls.now }
-    ensures { IfOk result (λ least. least ≡ least_from None (access_faults (text_of index.now) names.now (text_of index.now)
-        ++ loops_faults (text_of index.now) (all_loops (text_of index.now)))) }
+    requires items { map plain.plain_item items.now ≡ indexed_text index.now }
+    requires early { IsLeastOrNone None (IsEarly (indexed_text index.now) names.now) }
+    requires bodies { effects_lists program_notes.now.bodies.items ≡ map (item_effects (indexed_text index.now)) (indexed_text index.now) }
+    requires read { KnowsCalls (indexed_text index.now) calls.now }
+    ensures { IfOk result (λ least. least ≡ least_from None (access_faults (indexed_text index.now) names.now (indexed_text index.now)
+        ++ loops_faults (indexed_text index.now) (all_loops (indexed_text index.now)))) }
 {
     let symbols = Symbols { index, names };
     let mut least = None;
@@ -112,7 +112,7 @@ pub fn least_fault(
     program: &Program,
     names: &Labels,
 ) -> Result<Option<Fault>, OutOfMemory>
-    ensures { IfOk result (λ least. Kept least (IsFault (plain.program program.now) names.now)) }
+    ensures { IfOk result (λ least. IsLeastOrNone least (IsFault (plain.program program.now) names.now)) }
 {
     let items = program.items.as_slice();
     let index = Index::of(alloc, items)?;

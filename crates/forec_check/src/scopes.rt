@@ -4,7 +4,7 @@ ghost use Rattle.std.specs.Prelude.{◌≡◌, Some};
 ghost use Rattle.forec_tree.specs.Plain.{plain_global, plain_item};
 ghost use Rattle.forec_tree.specs.Scopes.{find_item, item_meaning};
 ghost use Rattle.forec_tree.specs.Scopes as scopes;
-ghost use Rattle.loop_check.specs.Views.{text_of};
+ghost use Rattle.loop_check.specs.Views.{indexed_text};
 ghost use Rattle.forec_check.specs.Views.{scope_of};
 
 pub mod declaration;
@@ -38,7 +38,7 @@ fn meaning_of_item(item: &Item) -> Meaning
 
 /// What a name means in the global scope.
 pub fn global_meaning(index: &Index<'_>, id: u32) -> Meaning
-    ensures { result ≡ item_meaning (find_item id (text_of index.now)) }
+    ensures { result ≡ item_meaning (find_item id (indexed_text index.now)) }
 {
     match index.find(id) {
         None => Meaning::Unknown,
@@ -48,7 +48,7 @@ pub fn global_meaning(index: &Index<'_>, id: u32) -> Meaning
 
 /// What a name means in a scope.
 pub fn meaning(index: &Index<'_>, scope: &Scope, id: u32) -> Meaning
-    ensures { result ≡ scopes.meaning (text_of index.now) (scope_of scope.now) id }
+    ensures { result ≡ scopes.meaning (indexed_text index.now) (scope_of scope.now) id }
 {
     match scope.array_of(id) {
         Some(array) => Meaning::Local { array },

@@ -6,7 +6,7 @@ ghost use Rattle.forec_tree.specs.Plain as plain;
 ghost use Rattle.forec_tree.specs.Rules as rules;
 ghost use Rattle.forec_tree.specs.Faults as faults;
 ghost use Rattle.forec_check.specs.Least.{least_from};
-ghost use Rattle.loop_check.specs.Views.{text_of};
+ghost use Rattle.loop_check.specs.Views.{indexed_text};
 ghost use Rattle.forec_check.specs.Walk.{effects_of, item_effects, effects_lists};
 ghost use Rattle.forec_check.specs.Items.{in_item, counts_after, CountsBelow, OneMore, JudgesFunction, JudgesItem, JudgesItems};
 ghost use Rattle.forec_check.specs.Views.{program_text, program_names};
@@ -125,11 +125,11 @@ fn walk_items(
     items: &[Item],
     program_notes: &mut ProgramNotes,
 ) -> Result<(), OutOfMemory>
-    requires items { map plain.plain_item items.now ≡ text_of index.now }
+    requires items { map plain.plain_item items.now ≡ indexed_text index.now }
     requires none { program_notes.old.notes.effects.items ≡ [] }
     requires bodies { program_notes.old.bodies.items ≡ [] }
-    ensures least { OnOk result (JudgesItems (text_of index.now) names.now program_notes.old.notes.least program_notes.new.notes.least) }
-    ensures bodies { OnOk result (effects_lists program_notes.new.bodies.items ≡ map (item_effects (text_of index.now)) (text_of index.now)) }
+    ensures least { OnOk result (JudgesItems (indexed_text index.now) names.now program_notes.old.notes.least program_notes.new.notes.least) }
+    ensures bodies { OnOk result (effects_lists program_notes.new.bodies.items ≡ map (item_effects (indexed_text index.now)) (indexed_text index.now)) }
 {
     let symbols = Symbols { index, names };
     let mut scope = Scope::new(alloc);
@@ -161,9 +161,9 @@ pub fn walk_program(
     names: &Labels,
     items: &[Item],
 ) -> Result<ProgramNotes, OutOfMemory>
-    requires { map plain.plain_item items.now ≡ text_of index.now }
-    ensures least { IfOk result (λ c. c.notes.least ≡ least_from None (faults.text_faults (text_of index.now) names.now)) }
-    ensures bodies { IfOk result (λ c. effects_lists c.bodies.items ≡ map (item_effects (text_of index.now)) (text_of index.now)) }
+    requires { map plain.plain_item items.now ≡ indexed_text index.now }
+    ensures least { IfOk result (λ c. c.notes.least ≡ least_from None (faults.text_faults (indexed_text index.now) names.now)) }
+    ensures bodies { IfOk result (λ c. effects_lists c.bodies.items ≡ map (item_effects (indexed_text index.now)) (indexed_text index.now)) }
 {
     let mut program_notes = ProgramNotes {
         notes: Notes {

@@ -13,7 +13,7 @@ use Rattle.tick_bounds.specs.Bound.{worst_case}
 use Rattle.tick_bounds.specs.Capped.{as_budget}
 use Rattle.text_verdict.specs.declared.counts.Counts.{Counts}
 use Rattle.trace_runs.specs.Led.{IsTold, RunsRows}
-use Rattle.trace_runs.specs.Prints.{Prints, Says}
+use Rattle.trace_runs.specs.Prints.{Prints, PrintsReport}
 use Rattle.trace_runs.specs.Report.{Report, trace_report}
 use Rattle.trace_runs.specs.Workload.{ticked_report}
 use Rattle.trace_runs.specs.declared.status.Status.{Status}
@@ -24,11 +24,11 @@ use Rattle.trace_runs.specs.Ends.{Wanted, ReadFor}
 use Rattle.trace_runs.specs.KernelNames.{run_format}
 use Rattle.trace_runs.specs.declared.format.Telling.{Telling}
 use Rattle.trace_runs.specs.declared.format.Telling.TheVariants as telling
-use Rattle.forec_engine.specs.Answers.{Answers}
+use Rattle.forec_engine.specs.Answers.{AnswersAccepted}
 use Rattle.forec_engine.specs.Ends.{run_with}
 use Rattle.command_words.specs.declared.request.Budget.{Budget}
 use Rattle.forec_engine.specs.Budgets.{budget_for, boundless, with_budget, IsBoundless}
-use Rattle.forec_engine.specs.Commands.{ThreadsReport, Of_misplaced, IsListing, counted, run_report}
+use Rattle.forec_engine.specs.Commands.{ThreadsReport, Of_misplaced, IsListing, counts_report, run_report}
 use Rattle.forec_engine.specs.Placing.{misplaced, misplacing, unless_misplaced, workload_report, IsMisplaced, IsRefusedRun}
 
 -- why a list is refused, where memory isn't wanting
@@ -60,21 +60,21 @@ module _ {K : Type 0} (held : K → Option (List ℕ)) (lost : K → ℕ) (is_do
     abbrev Ticked : ℕ → Report
     Ticked units = unless_misplaced (misplacing k running.placing) (ticked_report threads k units)
 
-    pub workload_boundless : IsBoundless k running.budget → Says held lost is_down boundless Unit out out' end →
-        Says held lost is_down (workload_report threads running k) (IsRefusedRun k running) out out' end
+    pub workload_boundless : IsBoundless k running.budget → PrintsReport held lost is_down boundless Unit out out' end →
+        PrintsReport held lost is_down (workload_report threads running k) (IsRefusedRun k running) out out' end
     workload_boundless b p =
         prints_as held lost is_down Unit (λ q. q ≡ boundless) Unit ⊥ ⊥ out out' Unit (λ q. q ≡ workload_report threads running k) (IsRefusedRun k running) ⊥ ⊥ end (λ t. t)
         (λ t r is. is ∙ unbounded (budget_for k running.budget) Ticked b) (λ _. inl b) (λ n. n) (λ n. n) p
 
     module _ (units : ℕ) (b : budget_for k running.budget ≡ Some units) where
-      pub workload_placed : misplacing k running.placing ≡ None → Says held lost is_down (ticked_report threads k units) ⊥ out out' end →
-          Says held lost is_down (workload_report threads running k) (IsRefusedRun k running) out out' end
+      pub workload_placed : misplacing k running.placing ≡ None → PrintsReport held lost is_down (ticked_report threads k units) ⊥ out out' end →
+          PrintsReport held lost is_down (workload_report threads running k) (IsRefusedRun k running) out out' end
       workload_placed e p =
           prints_as held lost is_down Unit (λ q. q ≡ ticked_report threads k units) ⊥ ⊥ ⊥ out out' Unit (λ q. q ≡ workload_report threads running k) (IsRefusedRun k running) ⊥ ⊥ end (λ t. t)
           (λ t r is. is ∙ unmisplaced (misplacing k running.placing) (ticked_report threads k units) e ∙ bounded (budget_for k running.budget) units Ticked b) (λ n. absurd n) (λ n. n) (λ n. n) p
 
       pub workload_misplaced : (why : PlaceFault) → (why ≡ fault.OutOfMemory) ⊎ (misplacing k running.placing ≡ Some why) → Misplaces held lost is_down why out out' end →
-          Says held lost is_down (workload_report threads running k) (IsRefusedRun k running) out out' end
+          PrintsReport held lost is_down (workload_report threads running k) (IsRefusedRun k running) out out' end
       workload_misplaced why o p =
           prints_as held lost is_down Unit (λ r. (why ≢ fault.OutOfMemory) × (r ≡ misplaced why)) (why ≢ fault.OutOfMemory) ⊥ ⊥ out out' Unit (λ q. q ≡ workload_report threads running k) (IsRefusedRun k running) ⊥ ⊥ end
           (λ t. t) (λ t r is. is.1 ∙ is_misplaced (misplacing k running.placing) why (ticked_report threads k units) (refused_by (misplacing k running.placing) why is.0 o) ∙ bounded (budget_for k running.budget) units Ticked b)
@@ -92,7 +92,7 @@ module _ {K : Type 0} (held : K → Option (List ℕ)) (lost : K → ℕ) (is_do
 
   module _ {S : Type 0} (left : S → Option (List ℕ)) (faults : S → ℕ) (down : S → Bool) (counts : Counts) (k : PlainKernel) (old new : S) where
     abbrev Did : PlainCommand → Type 0
-    Did command = Answers left faults down held lost is_down command counts k old new out out' end
+    Did command = AnswersAccepted left faults down held lost is_down command counts k old new out out' end
 
     -- what a run did, of which this is told
     record DidRun (tells : Telling) (running : PlainRunning) : Type 0 where
@@ -119,7 +119,7 @@ module _ {K : Type 0} (held : K → Option (List ℕ)) (lost : K → ℕ) (is_do
       abbrev Reported : ℕ → List ℕ → Report
       Reported units bytes = unless_misplaced (misplacing k running.placing) (trace_report MAX_ROWS (run_format tells k) k units bytes)
 
-      pub run_boundless : IsBoundless k running.budget → new ≡ old → Says held lost is_down boundless Unit out out' end → Did (run_with tells running)
+      pub run_boundless : IsBoundless k running.budget → new ≡ old → PrintsReport held lost is_down boundless Unit out out' end → Did (run_with tells running)
       run_boundless b same p = told_with tells running (record {
         prints = prints_as held lost is_down _ _ _ _ _ out out' _ _ _ _ _ end (λ t. tt)
             (λ t r is. (t.0, t.1, is ∙ unbounded (budget_for k running.budget) (λ units. Reported units t.0) b)) (λ _. inl b) (λ n. absurd n) (λ n. n) p;
@@ -152,7 +152,7 @@ module _ {K : Type 0} (held : K → Option (List ℕ)) (lost : K → ℕ) (is_do
           trace = inl same;
         })
 
-    pub explain_boundless : (b : Budget) (order : ℕ) → IsBoundless k b → new ≡ old → Says held lost is_down boundless Unit out out' end → Did (Explain b order)
+    pub explain_boundless : (b : Budget) (order : ℕ) → IsBoundless k b → new ≡ old → PrintsReport held lost is_down boundless Unit out out' end → Did (Explain b order)
     explain_boundless b order none same p = record {
       prints = prints_as held lost is_down _ _ _ _ _ out out' _ _ _ _ _ end (λ t. tt)
           (λ t r is. (t.0, t.1, is ∙ unbounded (budget_for k b) (λ units. trace_report MAX_ROWS (run_format telling.Report k) k units t.0) none)) (λ _. inl (_, refl, none)) (λ n. absurd n) (λ n. absurd n) p;
@@ -166,7 +166,7 @@ module _ {K : Type 0} (held : K → Option (List ℕ)) (lost : K → ℕ) (is_do
       trace = inr (_, refl, (refl, units, is_so, p.trace));
     }
 
-    pub checked : new ≡ old → Says held lost is_down (counted counts) ⊥ out out' end → Did Check
+    pub checked : new ≡ old → PrintsReport held lost is_down (counts_report counts) ⊥ out out' end → Did Check
     checked same p = record { prints = prints_as held lost is_down _ _ _ _ _ out out' _ _ _ _ _ end (λ t. tt) (λ t r is. is) (λ n. absurd n) (λ n. absurd n) (λ n. absurd n) p; trace = inl same }
 
     pub threaded : (placing : PlainPlacing) → new ≡ old → Prints held lost is_down Unit (ThreadsReport k placing) (IsMisplaced k placing) ⊥ ⊥ out out' end → Did (Threads placing)
@@ -180,7 +180,7 @@ module _ {K : Type 0} (held : K → Option (List ℕ)) (lost : K → ℕ) (is_do
 
 -- memory ran out before anything was done
 pub nothing_done : {S K : Type 0} (left : S → Option (List ℕ)) (faults : S → ℕ) (down : S → Bool) (held : K → Option (List ℕ)) (lost : K → ℕ) (is_down : K → Bool) (command : PlainCommand) (counts : Counts) (k : PlainKernel) (old new : S)
-    (out out' : K) → new ≡ old → out' ≡ out → Answers left faults down held lost is_down command counts k old new out out' status.NoMemory
+    (out out' : K) → new ≡ old → out' ≡ out → AnswersAccepted left faults down held lost is_down command counts k old new out out' status.NoMemory
 nothing_done left faults down held lost is_down command counts k old new out out' same kept =
     record { prints = prints_nothing held lost is_down _ _ _ _ _ out out' (rw kept refl); trace = inl same }
 

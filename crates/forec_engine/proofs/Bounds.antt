@@ -3,9 +3,9 @@ use Rattle.std.proofs.Common.{◌≡◌, ◌≤◌, ℕ, nat_le, cond, if◌then
 use Rattle.std.specs.Prelude.{codes}
 use Rattle.std.proofs.lemmas.Bool.{leb-true}
 use Rattle.forec_base.specs.declared.limits.TheConstants.{MAX_CORES, MAX_BUDGET}
-use Rattle.command_words.specs.CommandLine.{PlainValues, is_word, kinds_of, values_of}
-use Rattle.command_words.specs.Numbers.{between, number_of, number_in, number_or}
-use Rattle.command_words.specs.Requests.{PlainPlacing, PlainRunning, PlainCommand, Run, Wave, Check, Threads, Code, Explain, PlainRequest, OnText, OnWorkload, OnDump, OnLog, OnReplay, placing_of, budget_of, budget_or, order_of, running_of, explaining_of, placing_alone_of, has_no_options, is_bare, waving_of, logging_of, replaying_of, command_of, workload_of, dump_of, text_request_of, has_budget_alone, has_traces, traces_of, request_alone, request_named, request_by, unless_refused, request_of, OnTraces}
+use Rattle.command_words.specs.CommandLine.{PlainValues, is_word, kinds_of, command_values}
+use Rattle.command_words.specs.Numbers.{between, written_number, number_in, number_or}
+use Rattle.command_words.specs.Requests.{PlainPlacing, PlainRunning, PlainCommand, Run, Wave, Check, Threads, Code, Explain, PlainRequest, OnText, OnWorkload, OnDump, OnLog, OnReplay, placing_of, budget_of, budget_or, order_number, running_of, explaining_of, placing_alone_of, has_no_options, is_bare, waving_of, logging_of, replaying_of, command_of, workload_of, dump_of, text_request_of, has_budget_alone, has_traces, traces_of, request_alone, request_named, request_by, unless_refused, request_of, OnTraces}
 use Rattle.command_words.specs.declared.request.Budget.{Budget}
 use Rattle.command_words.specs.declared.request.Budget.TheVariants as budget
 use Rattle.command_words.specs.declared.request.TheConstants.{DEFAULT_BUDGET, MAX_WORKLOAD}
@@ -39,7 +39,7 @@ in_range least most m (Some n) e = within least most n m (nat_le least n) (nat_l
 
 or_usual : (usual most m : ℕ) (word : Option (List ℕ)) → 1 ≤ usual → usual ≤ most → number_or usual 1 most word ≡ Some m → (1 ≤ m) × (m ≤ most)
 or_usual usual most m None some few e = let is : usual ≡ m = (let h : Some usual ≡ Some m = e in cc) in (subst (λ x. 1 ≤ x) is some, subst (λ x. x ≤ most) is few)
-or_usual usual most m (Some word) some few e = in_range 1 most m (number_of word) e
+or_usual usual most m (Some word) some few e = in_range 1 most m (written_number word) e
 
 -- ---- budgets
 
@@ -48,7 +48,7 @@ small_units o b e few = let m = map_some budget.Units o b e in subst IsSmallBudg
 
 small_word : (word : List ℕ) (b : Budget) (bound : Bool) → (if bound then Some budget.Bound else option_map budget.Units (number_in 1 MAX_BUDGET word)) ≡ Some b → IsSmallBudget b
 small_word word b true e = let is : budget.Bound ≡ b = (let g : Some budget.Bound ≡ Some b = e in cc) in subst IsSmallBudget is tt
-small_word word b false e = small_units (number_in 1 MAX_BUDGET word) b e (λ m f. (in_range 1 MAX_BUDGET m (number_of word) f).1)
+small_word word b false e = small_units (number_in 1 MAX_BUDGET word) b e (λ m f. (in_range 1 MAX_BUDGET m (written_number word) f).1)
 
 small : (word : Option (List ℕ)) (b : Budget) → budget_or word ≡ Some b → IsSmallBudget b
 small None b e = let is : budget.Units DEFAULT_BUDGET ≡ b = (let g : Some (budget.Units DEFAULT_BUDGET) ≡ Some b = e in cc) in subst IsSmallBudget is (let few : DEFAULT_BUDGET ≤ MAX_BUDGET = omega arith in few)
@@ -75,7 +75,7 @@ module _ (v : PlainValues) (c : PlainCommand) where
   explains : explaining_of v ≡ Some c → IsInRange c
   explains e =
       let t = then_some _ (budget_of v) c (unless (is_some v.cores || is_some v.place) _ c e) in
-      let m = map_some (Explain t.0) (order_of v) c t.2 in
+      let m = map_some (Explain t.0) (order_number v) c t.2 in
       subst IsInRange m.2 (small v.budget t.0 t.1)
 
   lists : option_map Threads (placing_alone_of v) ≡ Some c → IsInRange c
@@ -111,7 +111,7 @@ module _ (v : PlainValues) (r : PlainRequest) where
   workload number e =
       let t = then_some _ (number_in 1 MAX_WORKLOAD number) r (unless v.fold _ r e) in
       let m = map_some (OnWorkload t.0) (running_of v) r t.2 in
-      subst HasRanges m.2 ((in_range 1 MAX_WORKLOAD t.0 (number_of number) t.1).1, runnable v m.0 m.1)
+      subst HasRanges m.2 ((in_range 1 MAX_WORKLOAD t.0 (written_number number) t.1).1, runnable v m.0 m.1)
 
   text : (name program : List ℕ) → text_request_of name program v ≡ Some r → HasRanges r
   text name program e =
@@ -168,4 +168,4 @@ module _ (v : PlainValues) (r : PlainRequest) where
 -- what the words ask for
 pub ranges : (words : List (List ℕ)) (r : PlainRequest) → request_of words ≡ Some r → HasRanges r
 unfolding request_of
-ranges words r e = by_kinds (values_of words) r (kinds_of words) e
+ranges words r e = by_kinds (command_values words) r (kinds_of words) e

@@ -12,13 +12,13 @@ use Rattle.core_alloc.specs.declared.fault.PlaceFault.{PlaceFault}
 use Rattle.command_words.specs.Requests.{PlainPlacing, PlainRunning, PlainCommand, Run, Wave, Check, Threads, Code, Explain, OnText, OnWorkload, OnLog, OnReplay, request_of, OnTraces}
 use Rattle.command_words.specs.declared.request.Budget.{Budget}
 use Rattle.command_words.specs.declared.request.Budget.TheVariants as budget
-use Rattle.workload.specs.Text.{text_of}
+use Rattle.workload.specs.Text.{workload_text}
 use Rattle.text_verdict.specs.Judging.{Accepts, Judged}
 use Rattle.kernel_fold.specs.Laws.{FoldingKeepsForm, FoldingKeepsPaced}
 use Rattle.kernel_fold.specs.Folding.{folded_kernel}
 use Rattle.text_verdict.specs.Laws.{AcceptedTextsAreFormed, AcceptedTextsArePaced, AcceptedTextsAreNeverOver}
 use Rattle.text_verdict.specs.declared.counts.Counts.{Counts}
-use Rattle.trace_rows.specs.Trace.{End, trace_of}
+use Rattle.trace_rows.specs.Trace.{TraceEnd, trace_of}
 use Rattle.trace_rows.specs.declared.fault.RowFault.{RowFault}
 use Rattle.trace_runs.specs.KernelNames.{input_names, run_format}
 use Rattle.trace_runs.specs.declared.format.Format.{Format}
@@ -40,7 +40,7 @@ use Rattle.forec_engine.specs.Laws.{CoverTheirKernel, CoveredNeverOver, BoundCov
 use Rattle.forec_engine.specs.Farms.{too_long, farmed, worse, worst, farm_report, FarmedReport}
 use Rattle.forec_engine.specs.declared.farm_traces.TheConstants.{FARM_ROWS}
 use Rattle.forec_base.specs.declared.limits.TheConstants.{MAX_TEXT_BYTES}
-use Rattle.trace_runs.specs.StatusNumbers.{number_of}
+use Rattle.trace_runs.specs.StatusNumbers.{status_number}
 use Rattle.forec_engine.specs.Placing.{misplacing, unless_misplaced, workload_report}
 use Rattle.forec_engine.proofs.DumpLemmas.{dump_never}
 use Rattle.forec_engine.proofs.Reports.{some_same, name_same, command_same, threads_same, running_same, never_text, farm_budget_same, never_farm, never_workload, text_no_log, workload_no_log, farm_no_log, log_running_same, text_no_replay, workload_no_replay, farm_no_replay, log_no_replay, replay_budget_same}
@@ -56,7 +56,7 @@ trace_end : (how : Format) (f : Option RowFault) (n : ℕ) → (end_of_trace how
 trace_end how None n e = cc
 trace_end how (Some f) n e = cc
 
-ending_never : (how : Format) (o : Outcome) (end : End) → o ≢ outcome.Over → (ending how o end).status ≢ status.Over
+ending_never : (how : Format) (o : Outcome) (end : TraceEnd) → o ≢ outcome.Over → (ending how o end).status ≢ status.Over
 ending_never how outcome.Paused end h e = trace_end how end.cause end.line e
 ending_never how outcome.Ended end h e = cc
 ending_never how (outcome.Trapped place trap) end h e = cc
@@ -145,7 +145,7 @@ module _ (k : PlainKernel) (units : ℕ) (never : NoRunOver k units) where
   worst_never : (texts : List (List ℕ)) → worst (map (λ (r : Report). r.status) (map (farmed k units) texts)) ≢ status.Over
   worst_never [] = λ e. cc
   worst_never (t ∷ ts) =
-      worse_never (nat_le (number_of (worst (map (λ (r : Report). r.status) (map (farmed k units) ts)))) (number_of (farmed k units t).status))
+      worse_never (nat_le (status_number (worst (map (λ (r : Report). r.status) (map (farmed k units) ts)))) (status_number (farmed k units t).status))
       (farmed k units t).status (worst (map (λ (r : Report). r.status) (map (farmed k units) ts))) (farmed_never t) (worst_never ts)
 
 farm_never : (content : List ℕ → Option (List ℕ)) (traces : List (List ℕ)) (b : Budget) (c : Counts) (k : PlainKernel) (r : Report) → Suffices k b → FarmedReport content traces b c k r → r.status ≢ status.Over
@@ -202,8 +202,8 @@ module _ (never : KernelsNeverOver) where
       (λ c k j y. accepted_never command trace c (kernel_for fold k) r (λ running is. suffices text c k fold running.budget j (covers.text name command fold text running c k n t is j)) y) x
   covered_never_over words content trace r covers (Of_dump name n x) = is_never r _ x.2 (dump_never x.0)
   covered_never_over words content trace r covers (Of_workload threads running n x) =
-      text_never (text_of threads) (λ c k q. q ≡ workload_report threads running k) r
-      (λ c k j y. is_never r _ y (workload_never threads running k (suffices (text_of threads) c k false running.budget j (covers.workload threads running c k n j)))) x
+      text_never (workload_text threads) (λ c k q. q ≡ workload_report threads running k) r
+      (λ c k j y. is_never r _ y (workload_never threads running k (suffices (workload_text threads) c k false running.budget j (covers.workload threads running c k n j)))) x
   covered_never_over words content trace r covers (Of_farm name traces b text n t x) =
       text_never text (FarmedReport content traces b) r (λ c k j y. farm_never content traces b c k r (suffices text c k false b j (covers.farm name traces b text c k n t j)) y) x
   covered_never_over words content trace r covers (Of_replay name log b text n t x) =

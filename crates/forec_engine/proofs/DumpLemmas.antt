@@ -10,7 +10,7 @@ use Rattle.dump_report.specs.Told.{ToldReport, dump_report, refused_long}
 use Rattle.dump_report.specs.declared.status.DumpStatus.{DumpStatus}
 use Rattle.dump_report.specs.declared.status.DumpStatus.TheVariants as dump
 use Rattle.text_verdict.specs.declared.refusal.Refusal.TheVariants as why
-use Rattle.trace_runs.specs.Prints.{Prints, Says}
+use Rattle.trace_runs.specs.Prints.{Prints, PrintsReport}
 use Rattle.trace_runs.specs.Report.{Report}
 use Rattle.trace_runs.specs.declared.status.Status.{Status}
 use Rattle.trace_runs.specs.declared.status.Status.TheVariants as status
@@ -31,7 +31,7 @@ module _ {K : Type 0} (held : K → Option (List ℕ)) (faults : K → ℕ) (dow
   -- a text was told
   pub said : (end : DumpStatus) → (EndsReport end → (end ≡ (dump_report text).status) × Appends (held old) (held new) (dump_report text).bytes) →
       (end ≡ dump.WriteFault → Fell (faults old) (faults new) (down new) × AddsFront (held old) (held new) (dump_report text).bytes) → (end ≡ dump.NoMemory → new ≡ old) →
-      Says held faults down (dump_printed text) ⊥ old new (status_of_dump end)
+      PrintsReport held faults down (dump_printed text) ⊥ old new (status_of_dump end)
   said dump.Done own write memory =
       let o = own tt in
       prints_all held faults down Unit (λ q. q ≡ dump_printed text) ⊥ ⊥ ⊥ old new status.Done tt (λ e. cc) (λ _. (dump_printed text, refl, record { status = ap status_of_dump o.0; bytes = o.1 }))
@@ -46,12 +46,12 @@ module _ {K : Type 0} (held : K → Option (List ℕ)) (faults : K → ℕ) (dow
   abbrev Told : Status → Type 0
   Told end = Prints held faults down ((text : List ℕ) × (content name ≡ Some text)) (DumpReport content name) ⊥ Lost ⊥ old new end
 
-  pub named_told : (bytes : List ℕ) (end : Status) → IfSome (content name) (λ x. bytes ≡ x) → Says held faults down (dump_printed bytes) ⊥ old new end → Told end
+  pub named_told : (bytes : List ℕ) (end : Status) → IfSome (content name) (λ x. bytes ≡ x) → PrintsReport held faults down (dump_printed bytes) ⊥ old new end → Told end
   named_told bytes end same p =
       prints_as held faults down _ _ _ _ _ old new _ _ _ _ _ end (λ t. tt) (λ t r is. (t.0, t.1, is ∙ ap dump_printed (told_is (content name) (λ x. bytes ≡ x) t.0 same t.1))) (λ n. n) (λ n. absurd n) (λ n. n) p
 
   pub named_too_long : ((text : List ℕ) → MAX_TEXT_BYTES < length text → dump_report text ≡ refused_long) → (end : Status) → IfSome (content name) (λ x. MAX_TEXT_BYTES < length x) →
-      Says held faults down (refused why.Long) ⊥ old new end → Told end
+      PrintsReport held faults down (refused why.Long) ⊥ old new end → Told end
   named_too_long long end many p =
       prints_as held faults down _ _ _ _ _ old new _ _ _ _ _ end (λ t. tt)
       (λ t r is. (t.0, t.1, is ∙ sym (ap (λ (q : ToldReport). record { bytes = q.bytes; status = status_of_dump q.status }) (long t.0 (told_is (content name) (λ x. MAX_TEXT_BYTES < length x) t.0 many t.1)))))

@@ -9,21 +9,21 @@ use Rattle.forec_kernel.specs.Ticks.{Fresh, run_from}
 use Rattle.forec_kernel.specs.declared.shape.Outcome.{Outcome}
 use Rattle.forec_kernel.specs.declared.shape.Outcome.TheVariants as outcome
 use Rattle.command_words.specs.declared.request.Budget.{Budget}
-use Rattle.text_verdict.specs.Judging.{Judged, Accepts, Refuses, too_long, most_bytes}
+use Rattle.text_verdict.specs.Judging.{Judged, Accepts, Refuses, too_long, most_text_bytes}
 use Rattle.text_verdict.specs.declared.counts.Counts.{Counts}
 use Rattle.text_verdict.specs.declared.refusal.Refusal.{Refusal}
 use Rattle.trace_farm.specs.Farm.{NumberedReport, with_number, plain_report, report_of}
 use Rattle.trace_farm.specs.declared.farm_report.FarmReport.{FarmReport}
-use Rattle.trace_rows.specs.Trace.{End, trace_of}
+use Rattle.trace_rows.specs.Trace.{TraceEnd, trace_of}
 use Rattle.trace_rows.specs.declared.fault.RowFault.{RowFault}
 use Rattle.trace_runs.specs.Calls.{AppendsFront}
 use Rattle.trace_runs.specs.Ends.{IsOwn}
 use Rattle.trace_runs.specs.KernelNames.{input_names, run_format}
 use Rattle.trace_runs.specs.declared.format.Format.{Format}
 use Rattle.trace_runs.specs.declared.format.Telling.TheVariants as telling
-use Rattle.trace_runs.specs.Prints.{Prints, Says}
+use Rattle.trace_runs.specs.Prints.{Prints, PrintsReport}
 use Rattle.trace_runs.specs.Report.{Report, last_outcome, end_of_trace, ending, trace_report}
-use Rattle.trace_runs.specs.StatusNumbers.{number_of}
+use Rattle.trace_runs.specs.StatusNumbers.{status_number}
 use Rattle.trace_runs.specs.declared.status.Status.{Status}
 use Rattle.trace_runs.specs.declared.status.Status.TheVariants as status
 use Rattle.trace_runs.proofs.Printing.{prints_all, prints_front, prints_nothing, prints_as}
@@ -58,7 +58,7 @@ end_runs : (how : Format) (f : Option RowFault) (n : ℕ) → IsRunStatus (end_o
 end_runs how None n = tt
 end_runs how (Some f) n = tt
 
-ending_runs : (how : Format) (o : Outcome) (end : End) → IsRunStatus (ending how o end).status
+ending_runs : (how : Format) (o : Outcome) (end : TraceEnd) → IsRunStatus (ending how o end).status
 ending_runs how outcome.Paused end = end_runs how end.cause end.line
 ending_runs how outcome.Ended end = tt
 ending_runs how (outcome.Trapped place trap) end = tt
@@ -69,9 +69,9 @@ unfolding trace_report
 report_runs rows how k units bytes =
     let trace = trace_of (input_names k) rows bytes in ending_runs how (last_outcome (run_from k units Fresh trace.rows)) trace.end
 
-numbers_are : (rs : List Report) → map (λ (r : NumberedReport). r.status) (map with_number rs) ≡ map number_of (map (λ (r : Report). r.status) rs)
+numbers_are : (rs : List Report) → map (λ (r : NumberedReport). r.status) (map with_number rs) ≡ map status_number (map (λ (r : Report). r.status) rs)
 numbers_are [] = refl
-numbers_are (r ∷ rs) = ap (λ (ns : List ℕ). number_of r.status ∷ ns) (numbers_are rs)
+numbers_are (r ∷ rs) = ap (λ (ns : List ℕ). status_number r.status ∷ ns) (numbers_are rs)
 
 -- ---- runs
 
@@ -93,27 +93,27 @@ module _ {K : Type 0} (held : K → Option (List ℕ)) (lost : K → ℕ) (is_do
   -- ---- reports
 
   module _ (names : List (List ℕ)) (rs : List Report) (run : AreRun rs) (told : List NumberedReport) (are : told ≡ map with_number rs) where
-    pub farm_printed : (s : Status) → ((ss : List Status) → map (λ (r : NumberedReport). r.status) told ≡ map number_of ss → s ≡ worst ss) → Appends (held out) (held out') (groups names told) →
-        Says held lost is_down (whole_report names rs) ⊥ out out' s
+    pub farm_printed : (s : Status) → ((ss : List Status) → map (λ (r : NumberedReport). r.status) told ≡ map status_number ss → s ≡ worst ss) → Appends (held out) (held out') (groups names told) →
+        PrintsReport held lost is_down (whole_report names rs) ⊥ out out' s
     farm_printed s is bytes =
         let same : s ≡ worst (map (λ (r : Report). r.status) rs) = is (map (λ (r : Report). r.status) rs) (ap (map (λ (r : NumberedReport). r.status)) are ∙ numbers_are rs) in
         let ran : IsRunStatus s = subst IsRunStatus (sym same) (worst_runs rs run) in
         prints_all held lost is_down Unit (λ q. q ≡ whole_report names rs) ⊥ ⊥ ⊥ out out' s (run_own s ran) (run_used s ran)
         (λ _. (whole_report names rs, refl, record { status = same; bytes = subst (λ (ts : List NumberedReport). Appends (held out) (held out') (groups names ts)) are bytes }))
 
-    pub farm_front : Fell (lost out) (lost out') (is_down out') → AppendsFront (held out) (held out') (groups names told) → Says held lost is_down (whole_report names rs) ⊥ out out' status.WriteFault
+    pub farm_front : Fell (lost out) (lost out') (is_down out') → AppendsFront (held out) (held out') (groups names told) → PrintsReport held lost is_down (whole_report names rs) ⊥ out out' status.WriteFault
     farm_front fell front =
         prints_front held lost is_down Unit (λ q. q ≡ whole_report names rs) ⊥ ⊥ ⊥ out out' fell
         (λ _. (whole_report names rs, refl, subst (λ (ts : List NumberedReport). AppendsFront (held out) (held out') (groups names ts)) are front))
 
-    pub farm_nothing : held out' ≡ held out → Says held lost is_down (whole_report names rs) ⊥ out out' status.NoMemory
+    pub farm_nothing : held out' ≡ held out → PrintsReport held lost is_down (whole_report names rs) ⊥ out out' status.NoMemory
     farm_nothing same = prints_nothing held lost is_down Unit (λ q. q ≡ whole_report names rs) ⊥ ⊥ ⊥ out out' same
 
   -- ---- texts
 
   module _ (content : List ℕ → Option (List ℕ)) (names : List (List ℕ)) (Lost : Type 0) (end : Status) where
     pub run_printed : (k : PlainKernel) (units : ℕ) (longs : List Bool) (bytes : List (List ℕ)) → AreRead content names longs bytes →
-        Says held lost is_down (whole_report names (reports_of k units longs bytes)) ⊥ out out' end →
+        PrintsReport held lost is_down (whole_report names (reports_of k units longs bytes)) ⊥ out out' end →
         Prints held lost is_down (TellsTexts content names) (IsFarmReport content names k units) ⊥ Lost ⊥ out out' end
     run_printed k units longs bytes read p =
         prints_as held lost is_down _ _ _ _ _ out out' _ _ _ _ _ end (λ t. tt)
@@ -126,7 +126,7 @@ module _ {K : Type 0} (held : K → Option (List ℕ)) (lost : K → ℕ) (is_do
           prints_as held lost is_down _ _ _ _ _ out out' _ _ _ _ _ end (λ t. t)
           (λ t r is. (is.0, is.1, is.2 ∙ sym (ap (λ x. with_budget x (λ u. farm_report k u names is.0)) e))) (λ n. absurd n) (λ u. u) (λ n. n) p
 
-      pub kernel_boundless : IsBoundless k b → Says held lost is_down boundless Unit out out' end →
+      pub kernel_boundless : IsBoundless k b → PrintsReport held lost is_down boundless Unit out out' end →
           Prints held lost is_down (TellsTexts content names) (IsKernelFarm content names b k) (IsBoundless k b) Lost ⊥ out out' end
       kernel_boundless none p =
           prints_as held lost is_down _ _ _ _ _ out out' _ _ _ _ _ end (λ t. tt)
@@ -138,7 +138,7 @@ module _ {K : Type 0} (held : K → Option (List ℕ)) (lost : K → ℕ) (is_do
       text_farmed text counts judged p =
           prints_as held lost is_down _ _ _ _ _ out out' _ _ _ _ _ end (λ t. t) (λ t r is. Of_accepted counts k judged is) (λ m. (counts, k, judged, m)) (λ u. u) (λ n. n) p
 
-    pub text_refused : (b : Budget) (text : List ℕ) (why : Refusal) → Judged text (Refuses why) → Says held lost is_down (refused why) ⊥ out out' end →
+    pub text_refused : (b : Budget) (text : List ℕ) (why : Refusal) → Judged text (Refuses why) → PrintsReport held lost is_down (refused why) ⊥ out out' end →
         Prints held lost is_down (TellsTexts content names) (TextReport text (FarmedReport content names b)) (AcceptedSo (λ k. IsBoundless k b) text) Lost ⊥ out out' end
     text_refused b text why judged p =
         prints_as held lost is_down _ _ _ _ _ out out' _ _ _ _ _ end (λ t. tt) (λ t r is. Of_refusal why judged is) (λ n. absurd n) (λ n. absurd n) (λ n. n) p
@@ -161,7 +161,7 @@ module _ {K : Type 0} (held : K → Option (List ℕ)) (lost : K → ℕ) (is_do
         told_as_before text r (Of_refusal why j e) = Of_refusal why j e
         told_as_before text r (Of_accepted counts k j x) = Of_accepted counts k j (x.0, sym (texts_same content other names same) ∙ x.1, x.2)
 
-    pub named_too_long : (name : List ℕ) (b : Budget) (why : Refusal) → IfSome (content name) (λ x. Judged x (Refuses why)) → Says held lost is_down (refused why) ⊥ out out' end → Named name b
+    pub named_too_long : (name : List ℕ) (b : Budget) (why : Refusal) → IfSome (content name) (λ x. Judged x (Refuses why)) → PrintsReport held lost is_down (refused why) ⊥ out out' end → Named name b
     named_too_long name b why judged p =
         prints_as held lost is_down _ _ _ _ _ out out' _ _ _ _ _ end (λ t. tt)
         (λ t r is. (t.0, t.1, Of_refusal why (told_text (content name) (λ x. Judged x (Refuses why)) t.0 judged t.1) is)) (λ n. absurd n) (λ n. absurd n) (λ n. n) p

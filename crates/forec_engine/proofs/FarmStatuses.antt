@@ -5,7 +5,7 @@ use Rattle.std.proofs.lemmas.List.Elements.{All-contains}
 use Rattle.rayon.specs.Lists.{IsGreatest}
 use Rattle.rayon.proofs.ToStd.{IsGreatest-All}
 use Rattle.trace_runs.specs.Report.{Report}
-use Rattle.trace_runs.specs.StatusNumbers.{number_of}
+use Rattle.trace_runs.specs.StatusNumbers.{status_number}
 use Rattle.trace_runs.specs.declared.status.Status.{Status}
 use Rattle.trace_runs.specs.declared.status.Status.TheVariants as status
 use Rattle.forec_engine.specs.Farms.{worse, worst}
@@ -14,15 +14,15 @@ use Rattle.forec_engine.specs.Farming.{IsRunStatus, AreRun}
 -- ---- of two
 
 module _ (a b : Status) where
-  left : (t : Bool) → nat_le (number_of b) (number_of a) ≡ t → number_of a ≤ number_of (if t then a else b)
+  left : (t : Bool) → nat_le (status_number b) (status_number a) ≡ t → status_number a ≤ status_number (if t then a else b)
   left true e = omega arith
-  left false e = let h : number_of a < number_of b = leb-false (number_of b) (number_of a) e in omega (arith, h)
+  left false e = let h : status_number a < status_number b = leb-false (status_number b) (status_number a) e in omega (arith, h)
 
-  right : (t : Bool) → nat_le (number_of b) (number_of a) ≡ t → number_of b ≤ number_of (if t then a else b)
-  right true e = leb-true (number_of b) (number_of a) e
+  right : (t : Bool) → nat_le (status_number b) (status_number a) ≡ t → status_number b ≤ status_number (if t then a else b)
+  right true e = leb-true (status_number b) (status_number a) e
   right false e = omega arith
 
-  within : (n : ℕ) (t : Bool) → number_of a ≤ n → number_of b ≤ n → number_of (if t then a else b) ≤ n
+  within : (n : ℕ) (t : Bool) → status_number a ≤ n → status_number b ≤ n → status_number (if t then a else b) ≤ n
   within n true f g = f
   within n false f g = g
 
@@ -32,36 +32,36 @@ module _ (a b : Status) where
 
 -- ---- of all
 
-top : (ss : List Status) (k d : ℕ) → k < length (map number_of ss) → get_or (map number_of ss) k d ≤ number_of (worst ss)
+top : (ss : List Status) (k d : ℕ) → k < length (map status_number ss) → get_or (map status_number ss) k d ≤ status_number (worst ss)
 top [] k d lt = absurd (omega (arith, lt))
-top (s ∷ ss) zero d lt = left s (worst ss) (nat_le (number_of (worst ss)) (number_of s)) refl
+top (s ∷ ss) zero d lt = left s (worst ss) (nat_le (status_number (worst ss)) (status_number s)) refl
 top (s ∷ ss) (suc k) d lt =
-    let below : get_or (map number_of ss) k d ≤ number_of (worst ss) = top ss k d (omega (arith, lt)) in
-    let here : number_of (worst ss) ≤ number_of (worse s (worst ss)) = right s (worst ss) (nat_le (number_of (worst ss)) (number_of s)) refl in
+    let below : get_or (map status_number ss) k d ≤ status_number (worst ss) = top ss k d (omega (arith, lt)) in
+    let here : status_number (worst ss) ≤ status_number (worse s (worst ss)) = right s (worst ss) (nat_le (status_number (worst ss)) (status_number s)) refl in
     omega (arith, below, here)
 
-bound : (ss : List Status) (n : ℕ) → ((k d : ℕ) → k < length (map number_of ss) → get_or (map number_of ss) k d ≤ n) → number_of (worst ss) ≤ n
+bound : (ss : List Status) (n : ℕ) → ((k d : ℕ) → k < length (map status_number ss) → get_or (map status_number ss) k d ≤ n) → status_number (worst ss) ≤ n
 bound [] n h = omega arith
 bound (s ∷ ss) n h =
-    within s (worst ss) n (nat_le (number_of (worst ss)) (number_of s)) (h zero 0 (omega arith)) (bound ss n (λ k d lt. h (suc k) d (omega (arith, lt))))
+    within s (worst ss) n (nat_le (status_number (worst ss)) (status_number s)) (h zero 0 (omega arith)) (bound ss n (λ k d lt. h (suc k) d (omega (arith, lt))))
 
 -- the greatest number is that of the worst status
-pub greatest_is : (ss : List Status) (n : ℕ) → IsGreatest nat_cmp (map number_of ss) (Some n) → number_of (worst ss) ≡ n
+pub greatest_is : (ss : List Status) (n : ℕ) → IsGreatest nat_cmp (map status_number ss) (Some n) → status_number (worst ss) ≡ n
 greatest_is ss n h =
-    let up : n ≤ number_of (worst ss) = All-contains (λ x. x ≤ number_of (worst ss)) (map number_of ss) n (λ k d lt. top ss k d lt) h.0 in
-    let all : All (λ x. x ≤ n) (map number_of ss) = IsGreatest-All (map number_of ss) (Some n) h in
-    let down : number_of (worst ss) ≤ n = bound ss n (λ k d lt. all k d lt) in
+    let up : n ≤ status_number (worst ss) = All-contains (λ x. x ≤ status_number (worst ss)) (map status_number ss) n (λ k d lt. top ss k d lt) h.0 in
+    let all : All (λ x. x ≤ n) (map status_number ss) = IsGreatest-All (map status_number ss) (Some n) h in
+    let down : status_number (worst ss) ≤ n = bound ss n (λ k d lt. all k d lt) in
     omega (arith, up, down)
 
-pub no_statuses : (ss : List Status) → map number_of ss ≡ [] → status.Done ≡ worst ss
+pub no_statuses : (ss : List Status) → map status_number ss ≡ [] → status.Done ≡ worst ss
 no_statuses [] e = refl
-no_statuses (s ∷ ss) e = absurd (let bad : number_of s ∷ map number_of ss ≡ [] = e in cc)
+no_statuses (s ∷ ss) e = absurd (let bad : status_number s ∷ map status_number ss ≡ [] = e in cc)
 
 -- ---- statuses of runs
 
 pub worst_runs : (rs : List Report) → AreRun rs → IsRunStatus (worst (map (λ r. r.status) rs))
 worst_runs [] h = tt
-worst_runs (r ∷ rs) h = runs r.status (worst (map (λ r. r.status) rs)) (nat_le (number_of (worst (map (λ r. r.status) rs))) (number_of r.status)) h.0 (worst_runs rs h.1)
+worst_runs (r ∷ rs) h = runs r.status (worst (map (λ r. r.status) rs)) (nat_le (status_number (worst (map (λ r. r.status) rs))) (status_number r.status)) h.0 (worst_runs rs h.1)
 
 -- ---- numbers
 
@@ -78,7 +78,7 @@ at n =
     else (if nat_le n 8 then status.WriteFault
     else (if nat_le n 9 then status.NoMemory else status.Full))))))))
 
-at_number : (s : Status) → at (number_of s) ≡ s
+at_number : (s : Status) → at (status_number s) ≡ s
 at_number status.Done = refl
 at_number status.Usage = refl
 at_number status.Refused = refl
@@ -91,11 +91,11 @@ at_number status.NoMemory = refl
 at_number status.Full = refl
 
 -- two statuses with one number are the same
-pub same_number : (s t : Status) → number_of s ≡ number_of t → s ≡ t
+pub same_number : (s t : Status) → status_number s ≡ status_number t → s ≡ t
 same_number s t e = sym (at_number s) ∙ ap at e ∙ at_number t
 
 -- and any other number is that of no memory, if it is one
-pub last_number : (n : ℕ) → n ≢ 0 → n ≢ 2 → n ≢ 3 → n ≢ 4 → n ≢ 5 → n ≢ 6 → n ≢ 7 → n ≢ 8 → n ≢ 10 → (s : Status) → number_of s ≡ n → status.NoMemory ≡ s
+pub last_number : (n : ℕ) → n ≢ 0 → n ≢ 2 → n ≢ 3 → n ≢ 4 → n ≢ 5 → n ≢ 6 → n ≢ 7 → n ≢ 8 → n ≢ 10 → (s : Status) → status_number s ≡ n → status.NoMemory ≡ s
 last_number n a b c d e f g h i status.Done is = absurd (a (sym is))
 last_number n a b c d e f g h i status.Usage is = absurd (b (sym is))
 last_number n a b c d e f g h i status.Refused is = absurd (c (sym is))

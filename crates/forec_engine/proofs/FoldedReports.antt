@@ -5,7 +5,7 @@ use Rattle.forec_base.specs.declared.limits.TheConstants.{MAX_ROWS}
 use Rattle.forec_kernel.specs.declared.shape.Outcome.{Outcome}
 use Rattle.forec_kernel.specs.declared.shape.Outcome.TheVariants as outcome
 use Rattle.forec_kernel.specs.Shapes.{PlainKernel}
-use Rattle.forec_kernel.specs.Ticks.{State, Fresh, Tick, tick, goes_on, run_from, run_of}
+use Rattle.forec_kernel.specs.Ticks.{TickState, Fresh, Tick, tick, goes_on, run_from, run_of}
 use Rattle.bound_laws.specs.Laws.{NoneOver}
 use Rattle.core_alloc.specs.declared.fault.PlaceFault.{PlaceFault}
 use Rattle.command_words.specs.Requests.{PlainPlacing, PlainRunning, PlainCommand, Run, Wave, Check, Threads, Code, Explain, OnText, OnWorkload, request_of, OnTraces}
@@ -15,7 +15,7 @@ use Rattle.kernel_fold.specs.Folding.{fold_stmt, folded_kernel}
 use Rattle.kernel_fold.specs.Laws.{UpToOver, FoldingKeepsRuns}
 use Rattle.text_verdict.specs.declared.counts.Counts.{Counts}
 use Rattle.thread_places.specs.Placed.{refusal_of}
-use Rattle.trace_rows.specs.Trace.{End, trace_of}
+use Rattle.trace_rows.specs.Trace.{TraceEnd, trace_of}
 use Rattle.trace_runs.specs.Formats.{opening, format_after}
 use Rattle.trace_runs.specs.KernelNames.{input_names, run_format}
 use Rattle.trace_runs.specs.declared.format.Format.{Format}
@@ -42,7 +42,7 @@ goes_on_over outcome.Ended e o = cc
 goes_on_over (outcome.Trapped place trap) e o = cc
 goes_on_over outcome.Over e o = cc
 
-none_over : (k : PlainKernel) (budget : ℕ) (s : State) (rows : List (List ℤ)) → last_outcome (run_from k budget s rows) ≢ outcome.Over → NoneOver (run_from k budget s rows)
+none_over : (k : PlainKernel) (budget : ℕ) (s : TickState) (rows : List (List ℤ)) → last_outcome (run_from k budget s rows) ≢ outcome.Over → NoneOver (run_from k budget s rows)
 none_over k budget s [] h = tt
 none_over k budget s (row ∷ rows) h = pick (goes_on (tick k budget s row).outcome) refl (none_over k budget (tick k budget s row).state rows) h
   where
@@ -78,13 +78,13 @@ module _ (budget : ℕ) where
       ∙ ap (λ (xs : List ℤ). lines_of how n ys t.outcome xs) same.1
       ∙ ap (λ (xs : List ℕ). outcome_lines how budget n t.outcome t.outputs ++ xs) (lines_same (format_after how t.outputs) (n + 1) ts ys none.1 same.2)
 
-  report_same : (how : Format) (n : ℕ) (end : End) (ts ys : List Tick) → NoneOver ts → UpToOver ts ys →
+  report_same : (how : Format) (n : ℕ) (end : TraceEnd) (ts ys : List Tick) → NoneOver ts → UpToOver ts ys →
       behind_bytes (lines_from how budget n ys) (ending how (last_outcome ys) end) ≡ behind_bytes (lines_from how budget n ts) (ending how (last_outcome ts) end)
   report_same how n end ts ys none u =
       ap (λ (xs : List ℕ). behind_bytes xs (ending how (last_outcome ys) end)) (lines_same how n ts ys none u)
       ∙ ap (λ (o : Outcome). behind_bytes (lines_from how budget n ts) (ending how o end)) (last_same ts ys none u)
 
-not_over : (how : Format) (o : Outcome) (end : End) → (ending how o end).status ≢ status.Over → o ≢ outcome.Over
+not_over : (how : Format) (o : Outcome) (end : TraceEnd) → (ending how o end).status ≢ status.Over → o ≢ outcome.Over
 not_over how o end h e = h (ap (λ (x : Outcome). (ending how x end).status) e)
 
 trace_same : FoldingKeepsRuns → (tells : Telling) (k : PlainKernel) (units : ℕ) (bytes : List ℕ) → (trace_report MAX_ROWS (run_format tells k) k units bytes).status ≢ status.Over →

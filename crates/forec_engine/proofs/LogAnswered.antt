@@ -8,11 +8,11 @@ use Rattle.core_alloc.specs.declared.fault.PlaceFault.{PlaceFault}
 use Rattle.core_alloc.specs.declared.fault.PlaceFault.TheVariants as fault
 use Rattle.command_words.specs.Requests.{PlainRunning}
 use Rattle.log_runs.specs.RunLogs.{LogsRows, WantedUntold}
-use Rattle.text_verdict.specs.Judging.{Judged, Accepts, Refuses, too_long, most_bytes}
+use Rattle.text_verdict.specs.Judging.{Judged, Accepts, Refuses, too_long, most_text_bytes}
 use Rattle.text_verdict.specs.declared.counts.Counts.{Counts}
 use Rattle.text_verdict.specs.declared.refusal.Refusal.{Refusal}
 use Rattle.text_verdict.specs.declared.refusal.Refusal.TheVariants as why
-use Rattle.trace_runs.specs.Prints.{Prints, Says}
+use Rattle.trace_runs.specs.Prints.{Prints, PrintsReport}
 use Rattle.trace_runs.specs.declared.format.Telling.TheVariants as telling
 use Rattle.trace_runs.specs.declared.status.Status.{Status}
 use Rattle.trace_runs.specs.declared.status.Status.TheVariants as status
@@ -35,7 +35,7 @@ module _ {S K : Type 0} (left : S → Option (List ℕ)) (faults : S → ℕ) (d
     abbrev Kernel : Status → Type 0
     Kernel end = LogsKernel left faults down held lost is_down running k old new out out' end
 
-    pub log_boundless : (end : Status) → IsBoundless k running.budget → new ≡ old → Says held lost is_down boundless Unit out out' end → Kernel end
+    pub log_boundless : (end : Status) → IsBoundless k running.budget → new ≡ old → PrintsReport held lost is_down boundless Unit out out' end → Kernel end
     log_boundless end b same p = record {
       prints = prints_as held lost is_down _ _ _ _ _ out out' _ _ _ _ _ end (λ t. tt) (λ t r is. (t.0, t.1, Of_boundless b is)) (λ _. inl b) (λ n. absurd n) (λ n. n) p;
       trace = inl same;
@@ -74,7 +74,7 @@ module _ {S K : Type 0} (left : S → Option (List ℕ)) (faults : S → ℕ) (d
     ];
   }
 
-  pub log_refused : (text : List ℕ) (why : Refusal) (end : Status) → Judged text (Refuses why) → new ≡ old → Says held lost is_down (refused why) ⊥ out out' end →
+  pub log_refused : (text : List ℕ) (why : Refusal) (end : Status) → Judged text (Refuses why) → new ≡ old → PrintsReport held lost is_down (refused why) ⊥ out out' end →
       LogsText left faults down held lost is_down running text old new out out' end
   log_refused text why end judged same p = record {
     prints = prints_as held lost is_down _ _ _ _ _ out out' _ _ _ _ _ end (λ t. tt) (λ t r is. Of_refusal why judged is) (λ n. absurd n) (λ n. absurd n) (λ n. n) p;
@@ -102,10 +102,10 @@ module _ {S K : Type 0} (left : S → Option (List ℕ)) (faults : S → ℕ) (d
       ];
     }
 
-    pub log_long : (end : Status) → IfSome (content name) (λ x. most_bytes < length x) → new ≡ old → Says held lost is_down (refused why.Long) ⊥ out out' end → Did end
+    pub log_long : (end : Status) → IfSome (content name) (λ x. most_text_bytes < length x) → new ≡ old → PrintsReport held lost is_down (refused why.Long) ⊥ out out' end → Did end
     log_long end long same p = record {
       prints = prints_as held lost is_down _ _ _ _ _ out out' _ _ _ _ _ end (λ t. tt)
-          (λ t r is. (t.0, t.1, Of_refusal why.Long (too_long (told_same (content name) (λ x. most_bytes < length x) t.0 long t.1)) is)) (λ n. absurd n) (λ n. absurd n) (λ n. n) p;
+          (λ t r is. (t.0, t.1, Of_refusal why.Long (too_long (told_same (content name) (λ x. most_text_bytes < length x) t.0 long t.1)) is)) (λ n. absurd n) (λ n. absurd n) (λ n. n) p;
       trace = inl same;
     }
 

@@ -3,15 +3,15 @@ use Rattle.std.proofs.Common.{◌≡◌, ◌<◌, inl, inr, ℕ, Bool, List, Opt
 use Rattle.std.specs.Option.{IfSome}
 use Rattle.forec_kernel.specs.Shapes.{PlainKernel}
 use Rattle.command_words.specs.Requests.{PlainCommand}
-use Rattle.forec_engine.specs.Answers.{Answers, AnswersText, AnswersNamed}
+use Rattle.forec_engine.specs.Answers.{AnswersAccepted, AnswersText, AnswersNamed}
 use Rattle.forec_engine.specs.Commands.{Of_refusal, Of_accepted, TextReport, CommandReport, refused}
 use Rattle.forec_engine.specs.Ends.{WantedByText, ReadForText, FoldedIsMisused, AcceptedSo, telling_in}
 use Rattle.forec_engine.specs.Folds.{kernel_for}
-use Rattle.text_verdict.specs.Judging.{Judged, Accepts, Refuses, too_long, most_bytes}
+use Rattle.text_verdict.specs.Judging.{Judged, Accepts, Refuses, too_long, most_text_bytes}
 use Rattle.text_verdict.specs.declared.counts.Counts.{Counts}
 use Rattle.text_verdict.specs.declared.refusal.Refusal.{Refusal}
 use Rattle.text_verdict.specs.declared.refusal.Refusal.TheVariants as why
-use Rattle.trace_runs.specs.Prints.{Says}
+use Rattle.trace_runs.specs.Prints.{PrintsReport}
 use Rattle.trace_runs.specs.declared.status.Status.{Status}
 use Rattle.trace_runs.specs.declared.status.Status.TheVariants as status
 use Rattle.trace_runs.proofs.Told.{some_map}
@@ -24,7 +24,7 @@ module _ {S K : Type 0} (left : S → Option (List ℕ)) (faults : S → ℕ) (d
   -- ---- of a text
 
   pub text_accepted : (text : List ℕ) (counts : Counts) (k : PlainKernel) (end : Status) → Judged text (Accepts counts k) →
-      Answers left faults down held lost is_down command counts (kernel_for fold k) old new out out' end →
+      AnswersAccepted left faults down held lost is_down command counts (kernel_for fold k) old new out out' end →
       AnswersText left faults down held lost is_down command fold text old new out out' end
   text_accepted text counts k end judged p = record {
     prints = prints_as held lost is_down _ _ _ _ _ out out' _ _ _ _ _ end (λ t. t) (λ t r is. Of_accepted counts k judged is) (λ m. (counts, k, judged, m))
@@ -35,7 +35,7 @@ module _ {S K : Type 0} (left : S → Option (List ℕ)) (faults : S → ℕ) (d
     ];
   }
 
-  pub text_refused : (text : List ℕ) (why : Refusal) (end : Status) → Judged text (Refuses why) → new ≡ old → Says held lost is_down (refused why) ⊥ out out' end → AnswersText left faults down held lost is_down command fold text old new out out' end
+  pub text_refused : (text : List ℕ) (why : Refusal) (end : Status) → Judged text (Refuses why) → new ≡ old → PrintsReport held lost is_down (refused why) ⊥ out out' end → AnswersText left faults down held lost is_down command fold text old new out out' end
   text_refused text why end judged same p = record {
     prints = prints_as held lost is_down _ _ _ _ _ out out' _ _ _ _ _ end (λ t. tt) (λ t r is. Of_refusal why judged is) (λ n. absurd n) (λ n. absurd n) (λ n. absurd n) p;
     trace = inl same;
@@ -61,10 +61,10 @@ module _ {S K : Type 0} (left : S → Option (List ℕ)) (faults : S → ℕ) (d
       ];
     }
 
-    pub named_long : (end : Status) → IfSome (content name) (λ x. most_bytes < length x) → new ≡ old → Says held lost is_down (refused why.Long) ⊥ out out' end → Did end
+    pub named_long : (end : Status) → IfSome (content name) (λ x. most_text_bytes < length x) → new ≡ old → PrintsReport held lost is_down (refused why.Long) ⊥ out out' end → Did end
     named_long end long same p = record {
       prints = prints_as held lost is_down _ _ _ _ _ out out' _ _ _ _ _ end (λ t. tt)
-          (λ t r is. (t.0, t.1, Of_refusal why.Long (too_long (told_same (content name) (λ x. most_bytes < length x) t.0 long t.1)) is)) (λ n. absurd n) (λ n. absurd n) (λ n. absurd n) p;
+          (λ t r is. (t.0, t.1, Of_refusal why.Long (too_long (told_same (content name) (λ x. most_text_bytes < length x) t.0 long t.1)) is)) (λ n. absurd n) (λ n. absurd n) (λ n. absurd n) p;
       trace = inl same;
     }
 

@@ -7,11 +7,11 @@ use Rattle.forec_kernel.specs.Shapes.{PlainKernel}
 use Rattle.command_words.specs.declared.request.Budget.{Budget}
 use Rattle.log_runs.specs.ReplayRuns.{IsReplay, ReplaysRows, WantedByReplay, ReadForReplay}
 use Rattle.log_runs.specs.declared.replaying.TheConstants.{MAX_LOG_BYTES}
-use Rattle.text_verdict.specs.Judging.{Judged, Accepts, Refuses, too_long, most_bytes}
+use Rattle.text_verdict.specs.Judging.{Judged, Accepts, Refuses, too_long, most_text_bytes}
 use Rattle.text_verdict.specs.declared.counts.Counts.{Counts}
 use Rattle.text_verdict.specs.declared.refusal.Refusal.{Refusal}
 use Rattle.text_verdict.specs.declared.refusal.Refusal.TheVariants as why
-use Rattle.trace_runs.specs.Prints.{Prints, Says}
+use Rattle.trace_runs.specs.Prints.{Prints, PrintsReport}
 use Rattle.trace_runs.specs.Report.{Report}
 use Rattle.trace_runs.specs.declared.status.Status.{Status}
 use Rattle.trace_runs.specs.declared.status.Status.TheVariants as status
@@ -37,7 +37,7 @@ module _ {S K : Type 0} (left : S → Option (List ℕ)) (faults : S → ℕ) (d
     abbrev Kernel : Status → Type 0
     Kernel end = ReplaysKernel left faults down held lost is_down content log b Lost k old new out out' end
 
-    pub replay_boundless : (end : Status) → IsBoundless k b → new ≡ old → Says held lost is_down boundless Unit out out' end → Kernel end
+    pub replay_boundless : (end : Status) → IsBoundless k b → new ≡ old → PrintsReport held lost is_down boundless Unit out out' end → Kernel end
     replay_boundless end none same p = record {
       prints = prints_as held lost is_down _ _ _ _ _ out out' _ _ _ _ _ end (λ t. tt) (λ t r is. (t.0, t.2.0, t.1, t.2.1, Of_no_bound none is)) (λ _. none) (λ n. absurd n) (λ n. n) p;
       trace = inl same;
@@ -74,7 +74,7 @@ module _ {S K : Type 0} (left : S → Option (List ℕ)) (faults : S → ℕ) (d
           short_too : (x : List ℕ) → lines ≡ x → length x ≤ MAX_LOG_BYTES
           short_too x e = subst (λ (t : List ℕ). length t ≤ MAX_LOG_BYTES) e short
 
-      pub replay_long : (end : Status) → IfSome (content log) (λ x. MAX_LOG_BYTES < length x) → new ≡ old → Says held lost is_down (refused why.Long) ⊥ out out' end → Kernel end
+      pub replay_long : (end : Status) → IfSome (content log) (λ x. MAX_LOG_BYTES < length x) → new ≡ old → PrintsReport held lost is_down (refused why.Long) ⊥ out out' end → Kernel end
       replay_long end long same p = record {
         prints = prints_as held lost is_down _ _ _ _ _ out out' _ _ _ _ _ end (λ t. tt)
             (λ t r is. (t.0, t.2.0, t.1, t.2.1, Of_long_log units bounded (told_same (content log) (λ x. MAX_LOG_BYTES < length x) t.0 long t.1) is)) (λ n. absurd n) (λ n. absurd n) (λ n. n) p;
@@ -103,7 +103,7 @@ module _ {S K : Type 0} (left : S → Option (List ℕ)) (faults : S → ℕ) (d
     ];
   }
 
-  pub replay_refused : (text : List ℕ) (why : Refusal) (end : Status) → Judged text (Refuses why) → new ≡ old → Says held lost is_down (refused why) ⊥ out out' end →
+  pub replay_refused : (text : List ℕ) (why : Refusal) (end : Status) → Judged text (Refuses why) → new ≡ old → PrintsReport held lost is_down (refused why) ⊥ out out' end →
       ReplaysText left faults down held lost is_down content log b Lost text old new out out' end
   replay_refused text why end judged same p = record {
     prints = prints_as held lost is_down _ _ _ _ _ out out' _ _ _ _ _ end (λ t. tt) (λ t r is. Of_refusal why judged is) (λ n. absurd n) (λ n. absurd n) (λ n. n) p;
@@ -155,9 +155,9 @@ module _ {S K : Type 0} (left : S → Option (List ℕ)) (faults : S → ℕ) (d
         ];
       }
 
-    pub replay_too_long : (end : Status) → IfSome (content name) (λ x. most_bytes < length x) → new ≡ old → Says held lost is_down (refused why.Long) ⊥ out out' end → Did end
+    pub replay_too_long : (end : Status) → IfSome (content name) (λ x. most_text_bytes < length x) → new ≡ old → PrintsReport held lost is_down (refused why.Long) ⊥ out out' end → Did end
     replay_too_long end long same p = record {
       prints = prints_as held lost is_down _ _ _ _ _ out out' _ _ _ _ _ end (λ t. tt)
-          (λ t r is. (t.0, t.2, Of_refusal why.Long (too_long (told_same (content name) (λ x. most_bytes < length x) t.0 long t.2)) is)) (λ n. absurd n) (λ n. absurd n) (λ n. n) p;
+          (λ t r is. (t.0, t.2, Of_refusal why.Long (too_long (told_same (content name) (λ x. most_text_bytes < length x) t.0 long t.2)) is)) (λ n. absurd n) (λ n. absurd n) (λ n. n) p;
       trace = inl same;
     }

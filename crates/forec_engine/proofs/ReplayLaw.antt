@@ -7,7 +7,7 @@ use Rattle.forec_base.specs.declared.limits.TheConstants.{MAX_BUDGET, MAX_ROWS}
 use Rattle.forec_kernel.specs.Composed.{TickInput}
 use Rattle.forec_kernel.specs.Shapes.{PlainKernel}
 use Rattle.forec_kernel.specs.Solo.{KernelAlone}
-use Rattle.forec_kernel.specs.Ticks.{State, Fresh, tick, goes_on, run_from}
+use Rattle.forec_kernel.specs.Ticks.{TickState, Fresh, tick, goes_on, run_from}
 use Rattle.forec_kernel.specs.WellFormed.{WellFormed}
 use Rattle.forec_kernel.specs.declared.shape.Outcome.{Outcome}
 use Rattle.forec_kernel.specs.declared.shape.Outcome.TheVariants as outcome
@@ -31,7 +31,7 @@ use Rattle.log_runs.proofs.KernelLogs.{below, parents}
 use Rattle.log_runs.specs.declared.replaying.TheConstants.{MAX_LOG_BYTES}
 use Rattle.text_verdict.specs.Laws.{OneVerdict, AcceptedTextsAreFormed}
 use Rattle.tick_bounds.specs.Bound.{worst_case}
-use Rattle.trace_rows.specs.Trace.{End, Row, trace_of}
+use Rattle.trace_rows.specs.Trace.{TraceEnd, Row, trace_of}
 use Rattle.trace_rows.specs.declared.fault.RowFault.{RowFault}
 use Rattle.trace_runs.specs.KernelNames.{input_names, run_format}
 use Rattle.trace_runs.specs.Report.{Report, last_outcome, end_of_trace, ending, trace_report, trace_turns, turns_from}
@@ -53,7 +53,7 @@ end_not : (how : Format) (f : Option RowFault) (n : ℕ) → (end_of_trace how f
 end_not how None n e = cc
 end_not how (Some f) n e = cc
 
-ending_not : (how : Format) (o : Outcome) (end : End) → (ending how o end).status ≢ status.Refused
+ending_not : (how : Format) (o : Outcome) (end : TraceEnd) → (ending how o end).status ≢ status.Refused
 ending_not how outcome.Paused end = end_not how end.cause end.line
 ending_not how outcome.Ended end = λ e. cc
 ending_not how (outcome.Trapped place trap) end = λ e. cc
@@ -133,7 +133,7 @@ units_small k (budget.Units most) units small e = subst (λ m. m ≤ MAX_BUDGET)
 units_small k budget.Bound units small e = small_units (worst_case k) units (nat_lt MAX_BUDGET (worst_case k)) refl e
 
 module _ (k : PlainKernel) (units : ℕ) (small : units ≤ MAX_BUDGET) where
-  turns_fit : (s : State) (rows : List Row) → AllByRecursion AreWords rows → AllByRecursion TurnFits (turns_from k units s rows)
+  turns_fit : (s : TickState) (rows : List Row) → AllByRecursion AreWords rows → AllByRecursion TurnFits (turns_from k units s rows)
   turns_fit s [] h = tt
   turns_fit s (row ∷ rows) h =
       let t = tick k units s row in (record { row = h.0; budget = small }, by (goes_on t.outcome) (turns_fit t.state rows h.1))

@@ -5,7 +5,7 @@ use Rattle.forec_kernel.specs.Shapes.{PlainKernel}
 use Rattle.core_alloc.specs.declared.fault.PlaceFault.{PlaceFault}
 use Rattle.command_words.specs.Requests.{PlainPlacing, PlainRunning, PlainCommand, Run, Wave, Check, Threads, Code, Explain, PlainRequest, OnText, OnWorkload, OnDump, OnLog, OnReplay, request_of, OnTraces}
 use Rattle.thread_places.specs.Laws.{OnePlacement, SomePlacement}
-use Rattle.forec_engine.specs.Commands.{IsListing, ThreadsReport, Of_misplaced, Of_placed, AcceptedReport, CommandReport, Of_refusal, Of_accepted, TextReport, WorkloadReport, Of_usage, Of_text, Of_workload, Of_dump, IsReport, TellsTrace, Tells, usage, refused, counted, listed, threads_listed, run_report, explain_report, Of_farm, Of_log, Of_replay}
+use Rattle.forec_engine.specs.Commands.{IsListing, ThreadsReport, Of_misplaced, Of_placed, AcceptedReport, CommandReport, Of_refusal, Of_accepted, TextReport, WorkloadReport, Of_usage, Of_text, Of_workload, Of_dump, IsReport, TellsTrace, IsKnown, usage, refused, counts_report, listing_report, threads_listed, run_report, explain_report, Of_farm, Of_log, Of_replay}
 use Rattle.forec_engine.specs.Dumps.{DumpReport, dump_printed}
 use Rattle.text_verdict.specs.Judging.{Verdict, Refuses, Accepts, Judged}
 use Rattle.text_verdict.specs.Laws.{OneVerdict, SomeVerdict, AcceptedTextsAreFormed}
@@ -83,7 +83,7 @@ one_accepted : OnePlacement → (command : PlainCommand) (c d : Counts) (k l : P
 one_accepted one (Run running) c d k l trace r q other e x y =
     two_runs telling.Report running c d k l trace r q e x y
 one_accepted one (Wave running) c d k l trace r q other e x y = two_runs telling.Wave running c d k l trace r q e x y
-one_accepted one Check c d k l trace r q other e x y = x ∙ ap counted (counts_same c d k l e) ∙ sym y
+one_accepted one Check c d k l trace r q other e x y = x ∙ ap counts_report (counts_same c d k l e) ∙ sym y
 one_accepted one (Threads placing) c d k l trace r q other e x y = two_threads one l placing r q (subst (λ m. ThreadsReport m placing r) (kernel_same c d k l e) x) y
 one_accepted one (Explain budget order) c d k l trace r q other e x y =
     x.2 ∙ ap (λ m. explain_report m budget x.0) (kernel_same c d k l e) ∙ ap (explain_report l budget) (some_same x.0 y.0 (sym x.1 ∙ y.1)) ∙ sym y.2
@@ -402,11 +402,11 @@ some_of_accepted : SomePlacement → (command : PlainCommand) (trace : Option (L
     ((r : Report) → AcceptedReport command trace c k r → ⊥) → ⊥
 some_of_accepted some (Run running) trace c k fine told never = never (run_report telling.Report k running told.0) (told.0, told.1, refl)
 some_of_accepted some (Wave running) trace c k fine told never = never (run_report telling.Wave k running told.0) (told.0, told.1, refl)
-some_of_accepted some Check trace c k fine told never = never (counted c) refl
+some_of_accepted some Check trace c k fine told never = never (counts_report c) refl
 some_of_accepted some (Threads placing) trace c k fine told never = some_threads some k placing (misplacing k placing) refl never
 some_of_accepted some (Explain budget order) trace c k fine told never = never (explain_report k budget told.0) (told.0, told.1, refl)
 some_of_accepted some Code trace c k fine told never =
-    never (listed (kernel_code k)) (record { code = kernel_code k; valid = kernel_code_valid k fine; stands = kernel_code_stands k fine; lists = refl })
+    never (listing_report (kernel_code k)) (record { code = kernel_code k; valid = kernel_code_valid k fine; stands = kernel_code_stands k fine; lists = refl })
 
 -- the kernel that a command is done with is well formed
 fine_for : FoldingKeepsForm → (fold : Bool) (k : PlainKernel) → WellFormed k → WellFormed (kernel_for fold k)
@@ -448,7 +448,7 @@ some_of_text verdict text Says some never = verdict text by
     by (Refuses why) j = never (refused why) (Of_refusal why j refl)
 
 module _ (verdict : SomeVerdict) (formed : AcceptedTextsAreFormed) (keeps : FoldingKeepsForm) (logs : EachRunHasALog) (some : SomePlacement) (words : List (List ℕ)) (content : List ℕ → Option (List ℕ))
-    (trace : Option (List ℕ)) (told : Tells words content trace) (never : (r : Report) → IsReport words content trace r → ⊥) where
+    (trace : Option (List ℕ)) (told : IsKnown words content trace) (never : (r : Report) → IsReport words content trace r → ⊥) where
   some_of_words : (x : Option PlainRequest) → request_of words ≡ x → ⊥
   some_of_words None e = never usage (Of_usage e refl)
   some_of_words (Some (OnText name command fold)) e =

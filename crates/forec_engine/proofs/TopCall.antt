@@ -2,9 +2,9 @@
 use Rattle.std.proofs.Common.{◌≡◌, ◌⊎◌, inl, inr, ℕ, Bool, List, Option, Some, None}
 use Rattle.forec_base.specs.Outside.{Fell}
 use Rattle.command_words.specs.Requests.{PlainRunning, PlainCommand, OnText, OnWorkload, OnDump, OnLog, OnReplay, request_of, OnTraces}
-use Rattle.workload.specs.Text.{text_of}
+use Rattle.workload.specs.Text.{workload_text}
 use Rattle.forec_engine.specs.Answers.{AnswersNamed, AnswersWords}
-use Rattle.forec_engine.specs.Commands.{IsReport, Of_usage, Of_text, Of_workload, Of_dump, WorkloadReport, Tells, usage, Of_farm, Of_log, Of_replay}
+use Rattle.forec_engine.specs.Commands.{IsReport, Of_usage, Of_text, Of_workload, Of_dump, WorkloadReport, IsKnown, usage, Of_farm, Of_log, Of_replay}
 use Rattle.forec_engine.specs.Dumps.{DumpReport}
 use Rattle.forec_engine.specs.Ends.{WantedByWords, Wanted_by_run, Wanted_by_log, Wanted_by_replay, ReadForWords, Read_for_run, Read_for_log, Read_for_replay, AcceptedSo, IsMisuse, Asks_nothing, Misuses, Misuses_workload, NameText, AskForRewriting, Misuses_farm, Misuses_log, Misuses_replay}
 use Rattle.forec_engine.specs.Budgets.{IsBoundless}
@@ -16,7 +16,7 @@ use Rattle.forec_engine.specs.Replaying.{ReplaysNamed}
 use Rattle.command_words.specs.declared.request.Budget.{Budget}
 use Rattle.std.specs.Option.{IfSome}
 use Rattle.trace_runs.specs.Ends.{IsOwn}
-use Rattle.trace_runs.specs.Prints.{Prints, Says}
+use Rattle.trace_runs.specs.Prints.{Prints, PrintsReport}
 use Rattle.trace_runs.specs.declared.status.Status.{Status}
 use Rattle.trace_runs.specs.declared.status.Status.TheVariants as status
 use Rattle.trace_runs.proofs.EndLemmas.{neither_fault}
@@ -28,7 +28,7 @@ module _ {S K : Type 0} (left : S → Option (List ℕ)) (faults : S → ℕ) (d
   Unread = (Lost × (held out' ≡ held out)) ⊎ (Fell (faults old) (faults new) (down new) × WantedByWords words content (left old) (left new) (held out) (held out'))
 
   abbrev pub WordsPrint : Status → Type 0
-  WordsPrint end = Prints held lost is_down (Tells words content (left old)) (IsReport words content (left old)) (IsMisuse words content) Unread (AskForRewriting words) out out' end
+  WordsPrint end = Prints held lost is_down (IsKnown words content (left old)) (IsReport words content (left old)) (IsMisuse words content) Unread (AskForRewriting words) out out' end
 
   pub words_text : (name : List ℕ) (command : PlainCommand) (fold : Bool) (end : Status) → request_of words ≡ Some (OnText name command fold) →
       AnswersNamed left faults down held lost is_down command fold content name Lost old new out out' end → WordsPrint end
@@ -42,7 +42,7 @@ module _ {S K : Type 0} (left : S → Option (List ℕ)) (faults : S → ℕ) (d
   words_trace name command fold end request p = elim p.trace [ inl same ↦ inl same | inr r ↦ inr (Read_for_run r.0 name command fold request r.1 r.2) ]
 
   pub words_workload : (threads : ℕ) (running : PlainRunning) (end : Status) → request_of words ≡ Some (OnWorkload threads running) →
-      Prints held lost is_down Unit (WorkloadReport threads running) (AcceptedSo (λ k. IsRefusedRun k running) (text_of threads)) ⊥ ⊥ out out' end → WordsPrint end
+      Prints held lost is_down Unit (WorkloadReport threads running) (AcceptedSo (λ k. IsRefusedRun k running) (workload_text threads)) ⊥ ⊥ out out' end → WordsPrint end
   words_workload threads running end request p =
       prints_as held lost is_down _ _ _ _ _ out out' _ _ _ _ _ end (λ told. tt) (λ told r is. Of_workload threads running request is) (λ m. Misuses_workload threads running request m) (λ n. absurd n) (λ n. absurd n) p
 
@@ -79,7 +79,7 @@ module _ {S K : Type 0} (left : S → Option (List ℕ)) (faults : S → ℕ) (d
   words_dump name end request p =
       prints_as held lost is_down _ _ _ _ _ out out' _ _ _ _ _ end (λ told. told.dump name request) (λ told r is. Of_dump name request is) (λ n. absurd n) (λ store. inl store) (λ n. absurd n) p
 
-  pub words_nothing : (end : Status) (Misused : Type 0) → request_of words ≡ None → Says held lost is_down usage Misused out out' end → WordsPrint end
+  pub words_nothing : (end : Status) (Misused : Type 0) → request_of words ≡ None → PrintsReport held lost is_down usage Misused out out' end → WordsPrint end
   words_nothing end Misused none p =
       prints_as held lost is_down _ _ _ _ _ out out' _ _ _ _ _ end (λ told. tt) (λ told r is. Of_usage none is) (λ m. Asks_nothing none) (λ n. absurd n) (λ n. absurd n) p
 

@@ -11,7 +11,7 @@ use Rattle.core_alloc.specs.declared.fault.PlaceFault.{PlaceFault}
 use Rattle.command_words.specs.Requests.{PlainPlacing, PlainRunning, PlainCommand, Run, Wave, Check, Threads, Code, Explain, PlainRequest, OnText, OnWorkload, OnDump, OnLog, OnReplay, request_of, OnTraces}
 use Rattle.thread_places.specs.Lines.{thread_lines}
 use Rattle.thread_places.specs.Placed.{IsPlacement}
-use Rattle.workload.specs.Text.{text_of}
+use Rattle.workload.specs.Text.{workload_text}
 use Rattle.forec_engine.specs.Dumps.{DumpReport}
 use Rattle.text_verdict.specs.Counting.{counts_line}
 use Rattle.text_verdict.specs.Judging.{refusal_line, Accepts, Refuses, Judged}
@@ -41,16 +41,16 @@ usage = record { bytes = usage_line; status = status.Usage }
 abbrev pub refused : Refusal → Report
 refused why = record { bytes = refusal_line why; status = status.Refused }
 
-abbrev pub counted : Counts → Report
-counted c = record { bytes = counts_line c; status = status.Done }
+abbrev pub counts_report : Counts → Report
+counts_report c = record { bytes = counts_line c; status = status.Done }
 
 -- the threads of a kernel, whose cores these are
 abbrev pub threads_listed : PlainKernel → List ℕ → Report
 threads_listed k places = record { bytes = thread_lines k places; status = status.Done }
 
 -- the listing of a code
-abbrev pub listed : PlainCode → Report
-listed code = record { bytes = listing_of code; status = status.Done }
+abbrev pub listing_report : PlainCode → Report
+listing_report code = record { bytes = listing_of code; status = status.Done }
 
 -- ---- reports
 
@@ -59,7 +59,7 @@ pub record IsListing (k : PlainKernel) (r : Report) : Type 0 where
   pub code : PlainCode
   pub valid : IsValidCode code
   pub stands : Stands code k
-  pub lists : r ≡ listed code
+  pub lists : r ≡ listing_report code
 
 -- what is told of a kernel that runs over a trace of these bytes; where the threads are placed doesn't show in it
 abbrev pub run_report : Telling → PlainKernel → PlainRunning → List ℕ → Report
@@ -81,7 +81,7 @@ pub data ThreadsReport (k : PlainKernel) (placing : PlainPlacing) (r : Report) :
 abbrev pub AcceptedReport : PlainCommand → Option (List ℕ) → Counts → PlainKernel → Report → Type 0
 AcceptedReport (Run running) trace counts k r = (bytes : List ℕ) × (trace ≡ Some bytes) × (r ≡ run_report telling.Report k running bytes)
 AcceptedReport (Wave running) trace counts k r = (bytes : List ℕ) × (trace ≡ Some bytes) × (r ≡ run_report telling.Wave k running bytes)
-AcceptedReport Check trace counts k r = r ≡ counted counts
+AcceptedReport Check trace counts k r = r ≡ counts_report counts
 AcceptedReport (Threads placing) trace counts k r = ThreadsReport k placing r
 AcceptedReport (Explain b order) trace counts k r = (bytes : List ℕ) × (trace ≡ Some bytes) × (r ≡ explain_report k b bytes)
 AcceptedReport Code trace counts k r = IsListing k r
@@ -97,7 +97,7 @@ pub data TextReport (text : List ℕ) (Says : Counts → PlainKernel → Report 
 
 -- r is the report of the workload of so many threads, of which the text is judged like any other
 abbrev pub WorkloadReport : ℕ → PlainRunning → Report → Type 0
-WorkloadReport threads running r = TextReport (text_of threads) (λ counts k q. q ≡ workload_report threads running k) r
+WorkloadReport threads running r = TextReport (workload_text threads) (λ counts k q. q ≡ workload_report threads running k) r
 
 -- r is the report of these words, where the texts have this content, and the trace these bytes
 pub data IsReport (words : List (List ℕ)) (content : List ℕ → Option (List ℕ)) (trace : Option (List ℕ)) (r : Report) : Type 0 where
@@ -130,7 +130,7 @@ abbrev pub TellsNamed : (List ℕ → Option (List ℕ)) → List ℕ → PlainC
 TellsNamed content name command trace = (text : List ℕ) × (content name ≡ Some text) × TellsTrace command trace
 
 -- the texts that the words name are told, and the trace where it is read
-pub record Tells (words : List (List ℕ)) (content : List ℕ → Option (List ℕ)) (trace : Option (List ℕ)) : Type 0 where
+pub record IsKnown (words : List (List ℕ)) (content : List ℕ → Option (List ℕ)) (trace : Option (List ℕ)) : Type 0 where
   pub text : (name : List ℕ) (command : PlainCommand) (fold : Bool) → request_of words ≡ Some (OnText name command fold)
       → TellsNamed content name command trace
   pub dump : (name : List ℕ) → request_of words ≡ Some (OnDump name) → (text : List ℕ) × (content name ≡ Some text)

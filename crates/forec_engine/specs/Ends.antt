@@ -3,7 +3,7 @@ use Rattle.std.specs.Prelude.{Contains, false, [], ◌∷◌, ◌≡◌, ◌≤�
 use Rattle.forec_base.specs.declared.limits.TheConstants.{MAX_ROWS}
 use Rattle.forec_kernel.specs.Shapes.{PlainKernel}
 use Rattle.command_words.specs.Requests.{PlainPlacing, PlainRunning, PlainCommand, Run, Wave, Check, Threads, Code, Explain, PlainRequest, OnText, OnWorkload, OnDump, OnLog, OnReplay, request_of, OnTraces}
-use Rattle.workload.specs.Text.{text_of}
+use Rattle.workload.specs.Text.{workload_text}
 use Rattle.text_verdict.specs.Judging.{Accepts, Judged}
 use Rattle.command_words.specs.declared.request.Budget.{Budget}
 use Rattle.forec_engine.specs.Budgets.{budget_for, IsBoundless}
@@ -146,7 +146,7 @@ pub data IsMisuse (words : List (List ℕ)) (content : List ℕ → Option (List
   Misuses_replay : (name log : List ℕ) (b : Budget) → request_of words ≡ Some (OnReplay name log b)
       → IfSome (content name) (AcceptedSo (λ k. IsBoundless k b)) → IsMisuse words content
   Misuses_workload : (threads : ℕ) (running : PlainRunning) → request_of words ≡ Some (OnWorkload threads running)
-      → AcceptedSo (λ k. IsRefusedRun k running) (text_of threads) → IsMisuse words content
+      → AcceptedSo (λ k. IsRefusedRun k running) (workload_text threads) → IsMisuse words content
 
 -- ---- texts
 

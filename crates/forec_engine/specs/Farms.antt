@@ -12,7 +12,7 @@ use Rattle.trace_farm.specs.Farm.{NumberedReport, with_number}
 use Rattle.trace_runs.specs.KernelNames.{run_format}
 use Rattle.trace_runs.specs.Report.{Report, trace_report}
 use Rattle.trace_runs.specs.declared.format.Telling.TheVariants as telling
-use Rattle.trace_runs.specs.StatusNumbers.{number_of}
+use Rattle.trace_runs.specs.StatusNumbers.{status_number}
 use Rattle.trace_runs.specs.declared.status.Status.{Status}
 use Rattle.trace_runs.specs.declared.status.Status.TheVariants as status
 use Rattle.forec_engine.specs.Budgets.{budget_for, with_budget}
@@ -36,7 +36,7 @@ groups names rs = concat (zip2 trace_group names rs)
 
 -- of two statuses the one with the greater number
 abbrev pub worse : Status → Status → Status
-worse a b = if nat_le (number_of b) (number_of a) then a else b
+worse a b = if nat_le (status_number b) (status_number a) then a else b
 
 -- the one with the greatest number
 abbrev pub worst : List Status → Status

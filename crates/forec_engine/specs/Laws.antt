@@ -4,7 +4,7 @@ use Rattle.forec_kernel.specs.Shapes.{PlainKernel}
 use Rattle.command_words.specs.Requests.{PlainRunning, PlainCommand, OnText, OnWorkload, OnTraces, OnLog, OnReplay, Code, request_of}
 use Rattle.command_words.specs.declared.request.Budget.{Budget}
 use Rattle.command_words.specs.declared.request.Budget.TheVariants as budget
-use Rattle.workload.specs.Text.{text_of}
+use Rattle.workload.specs.Text.{workload_text}
 use Rattle.text_verdict.specs.Judging.{Accepts, Judged}
 use Rattle.text_verdict.specs.declared.counts.Counts.{Counts}
 use Rattle.exchange_meaning.specs.LogLines.{IsLogText}
@@ -13,7 +13,7 @@ use Rattle.log_runs.specs.declared.replaying.TheConstants.{MAX_LOG_BYTES}
 use Rattle.forec_base.specs.declared.limits.TheConstants.{MAX_ROWS}
 use Rattle.forec_engine.specs.Budgets.{budget_for, Covers}
 use Rattle.forec_engine.specs.Folds.{kernel_for}
-use Rattle.forec_engine.specs.Commands.{IsListing, IsReport, Tells}
+use Rattle.forec_engine.specs.Commands.{IsListing, IsReport, IsKnown}
 use Rattle.forec_engine.specs.Ends.{running_in}
 use Rattle.trace_runs.specs.KernelNames.{run_format}
 use Rattle.trace_runs.specs.Report.{Report, trace_report, trace_turns}
@@ -45,7 +45,7 @@ AlikeReports =
 -- where the texts and the trace are told, it can't be that words have no report
 abbrev pub SomeReport : Type 0
 SomeReport =
-    (words : List (List ℕ)) (content : List ℕ → Option (List ℕ)) (trace : Option (List ℕ)) → Tells words content trace → ((r : Report) → IsReport words content trace r → ⊥) → ⊥
+    (words : List (List ℕ)) (content : List ℕ → Option (List ℕ)) (trace : Option (List ℕ)) → IsKnown words content trace → ((r : Report) → IsReport words content trace r → ⊥) → ⊥
 
 -- the words run a kernel with a budget of at least its worst case, where they run one at all
 pub record CoverTheirKernel (words : List (List ℕ)) (content : List ℕ → Option (List ℕ)) : Type 0 where
@@ -53,7 +53,7 @@ pub record CoverTheirKernel (words : List (List ℕ)) (content : List ℕ → Op
       → request_of words ≡ Some (OnText name command fold) → content name ≡ Some text → running_in command ≡ Some running → Judged text (Accepts counts k)
       → Covers (kernel_for fold k) running.budget
   pub workload : (threads : ℕ) (running : PlainRunning) (counts : Counts) (k : PlainKernel) → request_of words ≡ Some (OnWorkload threads running)
-      → Judged (text_of threads) (Accepts counts k) → Covers k running.budget
+      → Judged (workload_text threads) (Accepts counts k) → Covers k running.budget
   pub farm : (name : List ℕ) (traces : List (List ℕ)) (b : Budget) (text : List ℕ) (counts : Counts) (k : PlainKernel) → request_of words ≡ Some (OnTraces name traces b)
       → content name ≡ Some text → Judged text (Accepts counts k) → Covers k b
   pub replay : (name log : List ℕ) (b : Budget) (text : List ℕ) (counts : Counts) (k : PlainKernel) → request_of words ≡ Some (OnReplay name log b)

@@ -4,12 +4,12 @@ ghost use Rattle.forec_base.specs.declared.limits.TheConstants.{MAX_BUDGET};
 ghost use Rattle.forec_kernel.specs.Shapes.{plain_kernel};
 ghost use Rattle.command_words.specs.Requests.{Explain, plain_placing, plain_running, plain_command};
 ghost use Rattle.core_alloc.specs.declared.fault.PlaceFault.TheVariants as fault;
-ghost use Rattle.forec_engine.specs.Answers.{Answers};
+ghost use Rattle.forec_engine.specs.Answers.{AnswersAccepted};
 ghost use Rattle.forec_engine.specs.Budgets.{budget_for, boundless, IsSmallBudget};
-ghost use Rattle.forec_engine.specs.Commands.{refused, counted, threads_listed, ThreadsReport, IsListing, IsPlaceable, IsRunnable, IsInRange};
+ghost use Rattle.forec_engine.specs.Commands.{refused, counts_report, threads_listed, ThreadsReport, IsListing, IsPlaceable, IsRunnable, IsInRange};
 ghost use Rattle.forec_engine.specs.Ends.{run_with};
 ghost use Rattle.forec_engine.specs.Placing.{misplaced, workload_report, IsMisplaced, IsRefusedRun};
-ghost use Rattle.trace_runs.specs.Prints.{Prints, Says};
+ghost use Rattle.trace_runs.specs.Prints.{Prints, PrintsReport};
 
 use crate::lines::{put_counts, put_misplaced, put_refusal};
 use crate::room::has_room;
@@ -31,7 +31,7 @@ use trace_runs::{
 
 /// Says why a text is refused.
 pub fn refuse<K: Sink>(alloc: Global, why: Refusal, out: &mut K) -> Status
-    ensures { Says K.held K.faults K.down (refused why) ⊥ out.old out.new result }
+    ensures { PrintsReport K.held K.faults K.down (refused why) ⊥ out.old out.new result }
 {
     let Ok(mut waiting) = Waiting::plain(alloc) else {
         return Status::NoMemory;
@@ -42,7 +42,7 @@ pub fn refuse<K: Sink>(alloc: Global, why: Refusal, out: &mut K) -> Status
 
 /// Says why a list of places is refused.
 fn say_misplaced<K: Sink>(alloc: Global, why: PlaceFault, out: &mut K) -> Status
-    ensures { Says K.held K.faults K.down (misplaced why) ⊤ out.old out.new result }
+    ensures { PrintsReport K.held K.faults K.down (misplaced why) ⊤ out.old out.new result }
 {
     let Ok(mut waiting) = Waiting::plain(alloc) else {
         return Status::NoMemory;
@@ -81,7 +81,7 @@ pub fn budget_units(
 
 /// Says that a kernel has no bound.
 pub fn say_boundless<K: Sink>(out: &mut K) -> Status
-    ensures { Says K.held K.faults K.down boundless ⊤ out.old out.new result }
+    ensures { PrintsReport K.held K.faults K.down boundless ⊤ out.old out.new result }
 {
     say(out, b"bound none\n", Status::Usage)
 }
@@ -99,7 +99,7 @@ fn place_and_start<S: Source, K: Sink, G: Gate + Sync, R: Threads + Wait + Sync>
     requires runs { IsRunnable (plain_running running) }
     requires units { budget_for (plain_kernel accepted.now.kernel) (plain_running running).budget ≡ Some units }
     requires small { units ≤ MAX_BUDGET }
-    ensures { Answers S.left S.faults S.down K.held K.faults K.down (run_with telling (plain_running running.entry))
+    ensures { AnswersAccepted S.left S.faults S.down K.held K.faults K.down (run_with telling (plain_running running.entry))
         accepted.now.counts
         (plain_kernel accepted.now.kernel) trace.old trace.new out.old out.new result }
 {
@@ -122,7 +122,7 @@ fn start<S: Source, K: Sink, G: Gate + Sync, R: Threads + Wait + Sync>(
     out: &mut K,
 ) -> Status
     requires { IsRunnable (plain_running running) }
-    ensures { Answers S.left S.faults S.down K.held K.faults K.down (run_with telling (plain_running running.entry))
+    ensures { AnswersAccepted S.left S.faults S.down K.held K.faults K.down (run_with telling (plain_running running.entry))
         accepted.now.counts
         (plain_kernel accepted.now.kernel) trace.old trace.new out.old out.new result }
 {
@@ -145,7 +145,7 @@ fn explain<S: Source, K: Sink, G: Gate + Sync, R: Threads + Wait + Sync>(
     out: &mut K,
 ) -> Status
     requires { IsSmallBudget budget }
-    ensures { Answers S.left S.faults S.down K.held K.faults K.down (Explain budget order) accepted.now.counts
+    ensures { AnswersAccepted S.left S.faults S.down K.held K.faults K.down (Explain budget order) accepted.now.counts
         (plain_kernel accepted.now.kernel) trace.old trace.new out.old out.new result }
 {
     let kernel = &accepted.kernel;
@@ -166,7 +166,7 @@ fn explain<S: Source, K: Sink, G: Gate + Sync, R: Threads + Wait + Sync>(
 
 /// Tells what is counted of a text that is accepted.
 fn tell<K: Sink>(alloc: Global, counts: Counts, out: &mut K) -> Status
-    ensures { Says K.held K.faults K.down (counted counts) ⊥ out.old out.new result }
+    ensures { PrintsReport K.held K.faults K.down (counts_report counts) ⊥ out.old out.new result }
 {
     let Ok(mut waiting) = Waiting::plain(alloc) else {
         return Status::NoMemory;
@@ -183,7 +183,7 @@ fn list_placed<K: Sink>(
     out: &mut K,
 ) -> Status
     requires { length placement.now.places ≡ length (plain_kernel kernel.now).threads }
-    ensures { Says K.held K.faults K.down (threads_listed (plain_kernel kernel.now) placement.now.places) ⊥ out.old
+    ensures { PrintsReport K.held K.faults K.down (threads_listed (plain_kernel kernel.now) placement.now.places) ⊥ out.old
         out.new result }
 {
     let Ok(text) = thread_list(alloc, kernel, placement) else {
@@ -236,7 +236,7 @@ pub fn answer<S: Source, K: Sink, G: Gate + Sync, R: Threads + Wait + Sync>(
     out: &mut K,
 ) -> Status
     requires { IsInRange (plain_command command) }
-    ensures { Answers S.left S.faults S.down K.held K.faults K.down (plain_command command.entry) accepted.now.counts
+    ensures { AnswersAccepted S.left S.faults S.down K.held K.faults K.down (plain_command command.entry) accepted.now.counts
         (plain_kernel accepted.now.kernel) trace.old trace.new out.old out.new result }
 {
     let alloc = setting.alloc;
@@ -269,7 +269,7 @@ fn place_workload<K: Sink, G: Gate + Sync, R: Threads + Wait + Sync>(
     requires runs { IsRunnable (plain_running running) }
     requires units { budget_for (plain_kernel kernel.now) (plain_running running).budget ≡ Some units }
     requires small { units ≤ MAX_BUDGET }
-    ensures { Says K.held K.faults K.down (workload_report threads (plain_running running.entry) (plain_kernel
+    ensures { PrintsReport K.held K.faults K.down (workload_report threads (plain_running running.entry) (plain_kernel
         kernel.now))
         (IsRefusedRun (plain_kernel kernel.now) (plain_running running.entry)) out.old out.new result }
 {
@@ -290,7 +290,7 @@ pub fn answer_workload<K: Sink, G: Gate + Sync, R: Threads + Wait + Sync>(
     out: &mut K,
 ) -> Status
     requires { IsRunnable (plain_running running) }
-    ensures { Says K.held K.faults K.down (workload_report threads (plain_running running.entry) (plain_kernel
+    ensures { PrintsReport K.held K.faults K.down (workload_report threads (plain_running running.entry) (plain_kernel
         kernel.now))
         (IsRefusedRun (plain_kernel kernel.now) (plain_running running.entry)) out.old out.new result }
 {

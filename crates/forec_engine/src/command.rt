@@ -2,10 +2,10 @@
 ghost use Rattle.std.specs.Prelude.{◌≡◌, ◌≤◌, ◌≢◌, ◌⊎◌, ⊤, List, ℕ, Bool, map, length, string_bytes, Some};
 ghost use Rattle.forec_base.specs.Outside.{Fell, Rose};
 ghost use Rattle.command_words.specs.Requests.{plain_running, plain_command};
-ghost use Rattle.workload.specs.Text.{text_of};
+ghost use Rattle.workload.specs.Text.{workload_text};
 ghost use Rattle.trace_runs.specs.Calls.{AppendsFront};
 ghost use Rattle.forec_engine.specs.Answers.{AnswersText, AnswersNamed, AnswersWords};
-ghost use Rattle.forec_engine.specs.Commands.{IsReport, WorkloadReport, Tells, IsInRange, IsRunnable};
+ghost use Rattle.forec_engine.specs.Commands.{IsReport, WorkloadReport, IsKnown, IsInRange, IsRunnable};
 ghost use Rattle.trace_runs.specs.Ends.{IsOwn, Given};
 ghost use Rattle.forec_engine.specs.Ends.{WantedByWords, ReadForWords, AcceptedSo, IsMisuse, NameThis, NameText, AskForRewriting};
 ghost use Rattle.forec_engine.specs.Placing.{IsRefusedRun};
@@ -95,7 +95,7 @@ fn run_workload_text<K: Sink, G: Gate + Sync, R: Threads + Wait + Sync>(
     requires few { threads ≤ 255 }
     requires ranges { IsRunnable (plain_running running) }
     ensures { Prints K.held K.faults K.down ⊤ (WorkloadReport threads (plain_running running.entry))
-        (AcceptedSo (λ k. IsRefusedRun k (plain_running running.entry)) (text_of threads)) ⊥ ⊥ out.old out.new
+        (AcceptedSo (λ k. IsRefusedRun k (plain_running running.entry)) (workload_text threads)) ⊥ ⊥ out.old out.new
         result }
 {
     let alloc = setting.alloc;
@@ -211,7 +211,7 @@ pub fn forec<T: Texts, S: Source, K: Sink, G: Gate + Sync, R: Threads + Wait + S
 
     // Where the text and the trace are known, what is printed is a report of the words, and the status is the
     // report's.
-    ensures own { IsOwn result → Tells (map string_bytes words.now) (T.content texts.old) (S.left trace.old)
+    ensures own { IsOwn result → IsKnown (map string_bytes words.now) (T.content texts.old) (S.left trace.old)
         → (r : Report)
         × IsReport (map string_bytes words.now) (T.content texts.old) (S.left trace.old) r
         × Given r result (K.held out.old) (K.held out.new) }
@@ -225,7 +225,7 @@ pub fn forec<T: Texts, S: Source, K: Sink, G: Gate + Sync, R: Threads + Wait + S
 
     // The sink failed. What was printed is a prefix of a report of the words.
     ensures write { result ≡ Status.WriteFault → Fell (K.faults out.old) (K.faults out.new) (K.down out.new)
-        × (Tells (map string_bytes words.now) (T.content texts.old) (S.left trace.old) → (r : Report)
+        × (IsKnown (map string_bytes words.now) (T.content texts.old) (S.left trace.old) → (r : Report)
         × IsReport (map string_bytes words.now) (T.content texts.old) (S.left trace.old) r
         × AppendsFront (K.held out.old) (K.held out.new) r.bytes) }
 
@@ -242,7 +242,7 @@ pub fn forec<T: Texts, S: Source, K: Sink, G: Gate + Sync, R: Threads + Wait + S
     // Where memory ran out, nothing was printed. Of a program that is rewritten a prefix of a report may be.
     ensures memory { result ≡ Status.NoMemory → (K.held out.new ≡ K.held out.old)
         ⊎ (AskForRewriting (map string_bytes words.now)
-        × (Tells (map string_bytes words.now) (T.content texts.old) (S.left trace.old) → (r : Report)
+        × (IsKnown (map string_bytes words.now) (T.content texts.old) (S.left trace.old) → (r : Report)
         × IsReport (map string_bytes words.now) (T.content texts.old) (S.left trace.old) r
         × AppendsFront (K.held out.old) (K.held out.new) r.bytes)) }
 

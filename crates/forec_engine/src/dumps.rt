@@ -2,7 +2,7 @@
 ghost use Rattle.std.specs.Prelude.{◌≡◌, List, ℕ, Some};
 ghost use Rattle.forec_base.specs.Outside.{Fell};
 ghost use Rattle.forec_engine.specs.Dumps.{DumpReport, dump_printed, status_of_dump};
-ghost use Rattle.trace_runs.specs.Prints.{Prints, Says};
+ghost use Rattle.trace_runs.specs.Prints.{Prints, PrintsReport};
 
 use crate::answering::refuse;
 use dump_report::{DumpStatus, dumps_are_told, tell};
@@ -25,7 +25,7 @@ fn status_of(end: DumpStatus) -> Status
 
 /// Prints the report that a text tells, which is to be a dump.
 fn tell_text<K: Sink>(alloc: Global, text: &[u8], out: &mut K) -> Status
-    ensures { Says K.held K.faults K.down (dump_printed text.now) ⊥ out.old out.new result }
+    ensures { PrintsReport K.held K.faults K.down (dump_printed text.now) ⊥ out.old out.new result }
 {
     status_of(tell(alloc, text, out))
 }

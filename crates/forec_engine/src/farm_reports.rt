@@ -4,7 +4,7 @@ ghost use Rattle.std.specs.Io.KnownBytes.{Appends};
 ghost use Rattle.trace_farm.specs.Farm.{plain_report};
 ghost use Rattle.trace_rows.specs.Calls.{Faults};
 ghost use Rattle.trace_runs.specs.Calls.{AppendsFront};
-ghost use Rattle.trace_runs.specs.StatusNumbers.{number_of};
+ghost use Rattle.trace_runs.specs.StatusNumbers.{status_number};
 ghost use Rattle.trace_runs.specs.declared.status.Status.{Status};
 ghost use Rattle.forec_engine.specs.Farms.{groups, worst};
 ghost use Rattle.forec_engine.specs.Farming.{plain_told, told_as, told_all};
@@ -46,7 +46,7 @@ fn numbers(alloc: Global, reports: &[FarmReport], long: &[bool]) -> Result<Vec<u
 
 /// The status with this number.
 fn status_of(number: u32) -> Status
-    ensures { (s : Status) → number_of s ≡ number → result ≡ s }
+    ensures { (s : Status) → status_number s ≡ number → result ≡ s }
 {
     match number {
         0 => Status::Done,
@@ -75,7 +75,7 @@ pub fn whole_status(
 ) -> Result<Status, OutOfMemory>
     requires { length long.now ≡ length reports.now }
     ensures { IfOk result (λ s. (ss : List Status)
-        → map (λ r. r.status) (told_all long.now (map plain_report reports.now)) ≡ map number_of ss → s ≡ worst ss) }
+        → map (λ r. r.status) (told_all long.now (map plain_report reports.now)) ≡ map status_number ss → s ≡ worst ss) }
 {
     let numbers = numbers(alloc, reports, long)?;
     match greatest(rt, &numbers) {

@@ -4,7 +4,7 @@ ghost use Rattle.forec_base.specs.Outside.{Fell};
 ghost use Rattle.forec_base.specs.declared.limits.TheConstants.{MAX_BUDGET};
 ghost use Rattle.forec_kernel.specs.Shapes.{plain_kernel};
 ghost use Rattle.trace_farm.specs.Farm.{plain_report, with_number};
-ghost use Rattle.trace_runs.specs.Prints.{Prints, Says};
+ghost use Rattle.trace_runs.specs.Prints.{Prints, PrintsReport};
 ghost use Rattle.trace_runs.specs.Report.{Report};
 ghost use Rattle.forec_engine.specs.Budgets.{IsSmallBudget, IsBoundless};
 ghost use Rattle.forec_engine.specs.Commands.{TextReport};
@@ -46,7 +46,7 @@ fn print_reports<K: Sink>(
     requires reports { length reports.now ≡ length names.now }
     requires long { length long.now ≡ length reports.now }
     ensures { (rs : List Report) → told_all long.now (map plain_report reports.now) ≡ map with_number rs → AreRun rs
-        → Says K.held K.faults K.down (whole_report (map (λ n. n.now) names.now) rs) ⊥ out.old out.new result }
+        → PrintsReport K.held K.faults K.down (whole_report (map (λ n. n.now) names.now) rs) ⊥ out.old out.new result }
 {
     let Ok(status) = whole_status(rt, alloc, reports, long) else {
         return Status::NoMemory;
@@ -69,7 +69,7 @@ fn run_traces<K: Sink, G: Gate + Sync, R: Threads + Wait + Sync>(
     requires small { units ≤ MAX_BUDGET }
     requires long { length traces.now.long.items ≡ length names.now }
     requires bytes { length traces.now.bytes.items ≡ length names.now }
-    ensures { Says K.held K.faults K.down (whole_report (map (λ n. n.now) names.now) (reports_of (plain_kernel
+    ensures { PrintsReport K.held K.faults K.down (whole_report (map (λ n. n.now) names.now) (reports_of (plain_kernel
         kernel.now) units traces.now.long.items (map (λ v. v.items) traces.now.bytes.items)))
         ⊥ out.old out.new result }
 {

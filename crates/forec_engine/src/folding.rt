@@ -2,7 +2,7 @@
 ghost use Rattle.std.specs.Prelude.{◌≡◌, IfOk};
 ghost use Rattle.forec_kernel.specs.Shapes.{plain_kernel};
 ghost use Rattle.command_words.specs.Requests.{plain_command};
-ghost use Rattle.forec_engine.specs.Answers.{Answers};
+ghost use Rattle.forec_engine.specs.Answers.{AnswersAccepted};
 ghost use Rattle.forec_engine.specs.Commands.{IsInRange};
 ghost use Rattle.forec_engine.specs.Folds.{kernel_for};
 
@@ -43,7 +43,7 @@ pub fn answer_folded<S: Source, K: Sink, G: Gate + Sync, R: Threads + Wait + Syn
     out: &mut K,
 ) -> Status
     requires { IsInRange (plain_command command) }
-    ensures { Answers S.left S.faults S.down K.held K.faults K.down (plain_command command.entry) accepted.counts
+    ensures { AnswersAccepted S.left S.faults S.down K.held K.faults K.down (plain_command command.entry) accepted.counts
         (kernel_for is_folded (plain_kernel accepted.kernel)) trace.old trace.new out.old out.new result }
 {
     match as_asked(setting.alloc, accepted, is_folded) {

@@ -2,7 +2,7 @@
 ghost use Rattle.std.specs.Prelude.{◌≡◌, ◌≤◌, ◌++◌, length, codes, decimal};
 ghost use Rattle.text_verdict.specs.Counting.{counts_line};
 ghost use Rattle.text_verdict.specs.Judging.{limit_words, refused_at, refusal_line};
-ghost use Rattle.trace_runs.specs.WaitingRoom.{HasRoom, Gains};
+ghost use Rattle.trace_runs.specs.WaitingRoom.{HasRoomFor, GainsBytes};
 ghost use Rattle.forec_engine.specs.Placing.{place_line};
 
 use core_alloc::PlaceFault;
@@ -13,9 +13,9 @@ use trace_runs::Waiting;
 
 /// Adds `refused`, a place and a word.
 fn put_refused_at(waiting: &mut Waiting, place: Place, word: &[u8])
-    requires room { HasRoom waiting.old 64 }
+    requires room { HasRoomFor waiting.old 64 }
     requires short { length word.now ≤ 8 }
-    ensures line { Gains waiting.old waiting.new (refused_at place word.now) }
+    ensures line { GainsBytes waiting.old waiting.new (refused_at place word.now) }
     ensures short { length (refused_at place word.now) ≤ 37 }
 {
     waiting.put(b"refused ");
@@ -27,8 +27,8 @@ fn put_refused_at(waiting: &mut Waiting, place: Place, word: &[u8])
 
 /// Adds the line of a program that breaks this rule first.
 fn put_broken(waiting: &mut Waiting, place: Place, rule: u8)
-    requires { HasRoom waiting.old 64 }
-    ensures { Gains waiting.old waiting.new (refusal_line (Refusal.Rule place rule)) }
+    requires { HasRoomFor waiting.old 64 }
+    ensures { GainsBytes waiting.old waiting.new (refusal_line (Refusal.Rule place rule)) }
 {
     put_refused_at(waiting, place, b" rule ");
     waiting.put(Buffer::new().format(rule).as_bytes());
@@ -37,8 +37,8 @@ fn put_broken(waiting: &mut Waiting, place: Place, rule: u8)
 
 /// Adds the line of a program that passes this limit first.
 fn put_limit(waiting: &mut Waiting, what: Quantity, count: u64)
-    requires { HasRoom waiting.old 64 }
-    ensures { Gains waiting.old waiting.new (refusal_line (Refusal.Limit what count)) }
+    requires { HasRoomFor waiting.old 64 }
+    ensures { GainsBytes waiting.old waiting.new (refusal_line (Refusal.Limit what count)) }
 {
     waiting.put(limit_text(what));
     waiting.put_number(count);
@@ -47,8 +47,8 @@ fn put_limit(waiting: &mut Waiting, what: Quantity, count: u64)
 
 /// Adds the line of a text that is refused.
 pub fn put_refusal(waiting: &mut Waiting, why: Refusal)
-    requires { HasRoom waiting.old 64 }
-    ensures { Gains waiting.old waiting.new (refusal_line why) }
+    requires { HasRoomFor waiting.old 64 }
+    ensures { GainsBytes waiting.old waiting.new (refusal_line why) }
 {
     match why {
         Refusal::Long => waiting.put(b"refused long\n"),
@@ -63,9 +63,9 @@ pub fn put_refusal(waiting: &mut Waiting, why: Refusal)
 
 /// Adds a line of words and a number.
 fn put_numbered(waiting: &mut Waiting, words: &[u8], number: u64)
-    requires room { HasRoom waiting.old 64 }
+    requires room { HasRoomFor waiting.old 64 }
     requires short { length words.now ≤ 12 }
-    ensures { Gains waiting.old waiting.new (words.now ++ decimal number ++ codes "\n") }
+    ensures { GainsBytes waiting.old waiting.new (words.now ++ decimal number ++ codes "\n") }
 {
     waiting.put(words);
     waiting.put_number(number);
@@ -74,8 +74,8 @@ fn put_numbered(waiting: &mut Waiting, words: &[u8], number: u64)
 
 /// Adds the line of a list of places that is refused.
 pub fn put_misplaced(waiting: &mut Waiting, why: PlaceFault)
-    requires { HasRoom waiting.old 64 }
-    ensures { Gains waiting.old waiting.new (place_line why) }
+    requires { HasRoomFor waiting.old 64 }
+    ensures { GainsBytes waiting.old waiting.new (place_line why) }
 {
     match why {
         PlaceFault::Shape { at } => put_numbered(waiting, b"place shape ", at),
@@ -88,8 +88,8 @@ pub fn put_misplaced(waiting: &mut Waiting, why: PlaceFault)
 /// Adds the line of what is counted of a program.
 #[tactic(auto, unfolding(text_verdict::specs::Counting::counts_line))]
 pub fn put_counts(waiting: &mut Waiting, counts: Counts)
-    requires { HasRoom waiting.old 128 }
-    ensures { Gains waiting.old waiting.new (counts_line counts) }
+    requires { HasRoomFor waiting.old 128 }
+    ensures { GainsBytes waiting.old waiting.new (counts_line counts) }
 {
     waiting.put(b"ok threads ");
     waiting.put_number(counts.threads);

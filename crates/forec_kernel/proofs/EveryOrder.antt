@@ -3,8 +3,8 @@ use Rattle.std.proofs.Common.{ℕ, zero, suc, ◌+◌, ◌<◌, ◌≡◌, ℤ, 
 use Rattle.forec_kernel.specs.Shapes.{PlainKernel}
 use Rattle.forec_kernel.specs.Size.{text_size}
 use Rattle.forec_kernel.specs.Steps.{Path, thread_move}
-use Rattle.forec_kernel.specs.Ticks.{Going, is_stopped, moved, steps_along, State, begin}
-use Rattle.forec_kernel.specs.Laws.{first_paths, Ends}
+use Rattle.forec_kernel.specs.Ticks.{Going, is_stopped, moved, steps_along, TickState, begin}
+use Rattle.forec_kernel.specs.Laws.{first_paths, StopsAlong}
 use Rattle.forec_kernel.proofs.Ends.{Progress, Stopped, Paid, Smaller, progress, step_moves, tick_in_time}
 
 -- after some number of steps from here the tick has stopped
@@ -60,7 +60,7 @@ module _ (k : PlainKernel) (budget : ℕ) where
   ends_within zero order g h = let t = tick_in_time budget in ends_here order g (t.over g (omega arith))
   ends_within (suc left) order g h = ends_below left (ends_within left) (suc (text_size g.thread.text)) order g h (omega arith)
 
-pub every_order_ends : (k : PlainKernel) (budget : ℕ) (old : State) (row : List ℤ) (order : ℕ → Path) → Ends k budget old row order
+pub every_order_ends : (k : PlainKernel) (budget : ℕ) (old : TickState) (row : List ℤ) (order : ℕ → Path) → StopsAlong k budget old row order
 every_order_ends k budget old row order =
     let r = ends_within k budget (suc budget) order (begin k old row) (omega arith) in
     record { count = r.count; stops = r.stops }

@@ -32,13 +32,13 @@ pub record PlainKernel : Type 0 where
   pub threads : List Stmt
   pub functions : List Stmt
 
-abbrev pub named : Option (Vec ℕ Global) → Option (List ℕ)
-named None = None
-named (Some v) = Some v.items
+abbrev pub plain_name : Option (Vec ℕ Global) → Option (List ℕ)
+plain_name None = None
+plain_name (Some v) = Some v.items
 
 abbrev pub plain_thread : ThreadShape → PlainThread
 plain_thread t =
-    record { parent = t.parent; par = t.par; name = named t.name; params = t.params; words = t.words; uses = t.uses.items }
+    record { parent = t.parent; par = t.par; name = plain_name t.name; params = t.params; words = t.words; uses = t.uses.items }
 
 abbrev pub plain_shape : Shape → PlainShape
 plain_shape s =

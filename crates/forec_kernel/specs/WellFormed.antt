@@ -46,7 +46,7 @@ greatest f (a ∷ rest) = max (f a) (greatest f rest)
 -- ---- terms in range
 
 -- what a term may name: the kernel's tables and functions, so many words, these variables
-pub record Scope : Type 0 where
+pub record TermScope : Type 0 where
   pub kernel : PlainKernel
   pub words : ℕ
   pub uses : List ℕ
@@ -69,19 +69,19 @@ abbrev pub has_place : Option Place → Bool
 has_place (Some place) = true
 has_place None = false
 
-pub record IsArray (s : Scope) (slot n : ℕ) : Type 0 where
+pub record IsArray (s : TermScope) (slot n : ℕ) : Type 0 where
   pub within : slot + n ≤ s.words
   pub some : 1 ≤ n
   pub most : n ≤ MAX_ARRAY_LENGTH
 
 -- the elements of a shared array: n variables that stand in a row, each with a copy
-pub record IsSharedArray (s : Scope) (v n : ℕ) : Type 0 where
+pub record IsSharedArray (s : TermScope) (v n : ℕ) : Type 0 where
   pub used : IsTrue (all_in (count_up v n) s.uses)
   pub some : 1 ≤ n
   pub most : n ≤ MAX_ARRAY_LENGTH
 
 abbrev mutual
-  pub FineExpr : Scope → Expr → Type 0
+  pub FineExpr : TermScope → Expr → Type 0
   FineExpr s (Num n) = Unit {0}
   FineExpr s (Local slot) = slot < s.words
   FineExpr s (LocalAt slot n i place) = IsArray s slot n × FineExpr s i
@@ -96,20 +96,20 @@ abbrev mutual
   FineExpr s (Call f args) =
       (f < length s.kernel.functions) × (count_exprs args ≡ function_params s.kernel f) × FineExprs s args
 
-  pub FineExprs : Scope → Exprs → Type 0
+  pub FineExprs : TermScope → Exprs → Type 0
   FineExprs s no_exprs = Unit {0}
   FineExprs s (more_exprs e es) = FineExpr s e × FineExprs s es
 
-abbrev pub FineSpot : Scope → Spot → Type 0
+abbrev pub FineSpot : TermScope → Spot → Type 0
 FineSpot s (spot.Local slot) = slot < s.words
 FineSpot s (spot.Variable v) = IsTrue (contains v s.uses)
 
-pub record FineBranch (s : Scope) (b : Branch) : Type 0 where
+pub record FineBranch (s : TermScope) (b : Branch) : Type 0 where
   pub named : b.thread < length s.kernel.threads
   pub count : count_exprs b.args ≡ (thread_of s.kernel b.thread).params
   pub args : FineExprs s b.args
 
-abbrev pub FineBranches : Scope → List Branch → Type 0
+abbrev pub FineBranches : TermScope → List Branch → Type 0
 FineBranches s [] = Unit {0}
 FineBranches s (b ∷ bs) = FineBranch s b × FineBranches s bs
 
@@ -119,7 +119,7 @@ FineBound function None = IsTrue (cond function false true)
 
 -- a statement of an int function, or of a thread
 abbrev mutual
-  pub FineStmt : (function : Bool) → Scope → Stmt → Type 0
+  pub FineStmt : (function : Bool) → TermScope → Stmt → Type 0
   FineStmt f s Nop = Unit {0}
   FineStmt f s (Set to e) = FineSpot s to × FineExpr s e
   FineStmt f s (SetAt slot n i e place) = IsArray s slot n × FineExpr s i × FineExpr s e
@@ -133,7 +133,7 @@ abbrev mutual
   FineStmt f s (Enter weak immediate e body) = IsTrue (cond f false true) × FineExpr s e × FineStmt f s body
   FineStmt f s (Return e) = IsTrue f × FineExpr s e
 
-  pub FineStmts : (function : Bool) → Scope → Stmts → Type 0
+  pub FineStmts : (function : Bool) → TermScope → Stmts → Type 0
   FineStmts f s no_stmts = Unit {0}
   FineStmts f s (more_stmts a rest) = FineStmt f s a × FineStmts f s rest
 

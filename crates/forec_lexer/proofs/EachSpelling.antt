@@ -4,7 +4,7 @@ use Rattle.forec_tree.specs.declared.token.Word.{Word}
 use Rattle.forec_tree.specs.declared.token.Word.TheVariants as reserved
 use Rattle.forec_tree.specs.declared.token.Mark.{Mark}
 use Rattle.forec_tree.specs.declared.token.Mark.TheVariants as sign
-use Rattle.forec_tree.specs.Lexis.{is_space, is_letter, is_digit, goes_on, Each, letters_of, spelling}
+use Rattle.forec_tree.specs.Lexis.{is_space, is_letter, is_digit, continues_name, Each, letters_of, spelling}
 use Rattle.forec_lexer.specs.Reading.{words, word_in, marks, mark_ahead}
 use Rattle.forec_lexer.proofs.Tables.{Among, AmongWords, IsSorted}
 
@@ -58,7 +58,7 @@ word_some reserved.While f = cc
 word_some reserved.For f = cc
 word_some reserved.Return f = cc
 
-pub word_goes_on : (w : Word) → Each goes_on (letters_of w)
+pub word_goes_on : (w : Word) → Each continues_name (letters_of w)
 word_goes_on reserved.Int = (refl, (refl, (refl, tt)))
 word_goes_on reserved.Void = (refl, (refl, (refl, (refl, tt))))
 word_goes_on reserved.Const = (refl, (refl, (refl, (refl, (refl, tt)))))

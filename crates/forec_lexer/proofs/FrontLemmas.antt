@@ -10,10 +10,10 @@ use Rattle.std.proofs.lemmas.Bool.Decides.{nat_tests}
 use Rattle.forec_tree.specs.declared.token.Word.{Word}
 use Rattle.forec_tree.specs.declared.token.Mark.{Mark}
 use Rattle.forec_tree.specs.Lexis as lexis
-use Rattle.forec_tree.specs.Lexis.{is_space, is_letter, is_digit, goes_on, is_line_end, Each, EndsOr, letters_of, spelling, IsName, IsReserved, IsInt, IsToClose, IsComment, block, line, OpensComment, IsBlank, Fits, FitsAhead, NextPiece, NothingFits}
+use Rattle.forec_tree.specs.Lexis.{is_space, is_letter, is_digit, continues_name, is_line_end, Each, EndsOr, letters_of, spelling, IsName, IsReserved, IsInt, IsToClose, IsComment, block, line, OpensComment, IsBlank, IsPiece, FitsAhead, NextPiece, NothingFits}
 use Rattle.forec_lexer.specs.declared.pieces.Piece.{Piece}
 use Rattle.forec_lexer.specs.declared.pieces.Piece.TheVariants as piece
-use Rattle.forec_lexer.specs.Reading.{shown, IsText, words, word_in, marks, mark_ahead, number_of, close_from, is_in_line, run, word_or_name, letters_ahead, number_ahead, sign_ahead, front}
+use Rattle.forec_lexer.specs.Reading.{shown, IsText, words, word_in, marks, mark_ahead, lexed_number, close_from, is_in_line, run, word_or_name, letters_ahead, number_ahead, sign_ahead, piece_ahead}
 use Rattle.forec_lexer.proofs.Runs.{run_within, run_front, run_each, run_longest, run_ends, run_is}
 use Rattle.forec_lexer.proofs.NumberLemmas.{number_sound, number_complete, number_goes_on, number_first, number_some}
 use Rattle.forec_lexer.proofs.CommentLemmas.{Closed, close_found, close_there, Comment, is_block, is_line, comment_opens, comment_some, comment_long, comment_is}
@@ -31,13 +31,13 @@ digit_no_space b h = grind (arith, nat_tests)
 pub digit_no_letter : (b : ℕ) → is_digit b ≡ true → is_letter b ≡ false
 digit_no_letter b h = grind (arith, nat_tests)
 
-letter_goes_on : (b : ℕ) → is_letter b ≡ true → goes_on b ≡ true
+letter_goes_on : (b : ℕ) → is_letter b ≡ true → continues_name b ≡ true
 letter_goes_on b h = rw h
 
-digit_goes_on : (b : ℕ) → is_digit b ≡ true → goes_on b ≡ true
+digit_goes_on : (b : ℕ) → is_digit b ≡ true → continues_name b ≡ true
 digit_goes_on b h = grind (arith, nat_tests)
 
-goes_on_ascii : (b : ℕ) → goes_on b ≡ true → b < 128
+goes_on_ascii : (b : ℕ) → continues_name b ≡ true → b < 128
 goes_on_ascii b h = grind (arith, nat_tests)
 
 abbrev pub First : lexis.Piece → ℕ → Type 0
@@ -47,7 +47,7 @@ First (lexis.number z) b = is_digit b ≡ true
 First (lexis.word w) b = is_letter b ≡ true
 First (lexis.mark m) b = NoRun b
 
-pub first : (p : lexis.Piece) (b : ℕ) (bs behind : List ℕ) → Fits p (b ∷ bs) behind → First p b
+pub first : (p : lexis.Piece) (b : ℕ) (bs behind : List ℕ) → IsPiece p (b ∷ bs) behind → First p b
 first lexis.blank b bs behind (inl f) = let e : b ≡ f.0 = cc in inl (rw e f.1)
 first lexis.blank b bs behind (inr f) = inr (comment_opens b bs behind f)
 first lexis.name b bs behind f = f.0.0
@@ -55,7 +55,7 @@ first (lexis.number z) b bs behind f = number_first b bs f.0.value f.0.number
 first (lexis.word w) b bs behind f = word_first w b bs f
 first (lexis.mark m) b bs behind f = mark_first m b bs f.0
 
-pub some_byte : (p : lexis.Piece) (behind : List ℕ) → Fits p [] behind → ⊥
+pub some_byte : (p : lexis.Piece) (behind : List ℕ) → IsPiece p [] behind → ⊥
 some_byte lexis.blank behind (inl f) = let e : [] ≡ f.0 ∷ [] = f.2 in cc
 some_byte lexis.blank behind (inr f) = comment_some behind f
 some_byte lexis.name behind f = f.0
@@ -77,7 +77,7 @@ reads_space b bs h = record { fits = record { within = omega arith; fits = inl (
     no_comment : (c : ℕ) → is_space c ≡ true → c ≡ 47 → ⊥
     no_comment c s e = grind (arith, nat_tests)
 
-    only : (q : lexis.Piece) (k : ℕ) → k ≤ length bs → Fits q (b ∷ take k bs) (drop k bs) → First q b → suc k ≤ 1
+    only : (q : lexis.Piece) (k : ℕ) → k ≤ length bs → IsPiece q (b ∷ take k bs) (drop k bs) → First q b → suc k ≤ 1
     only lexis.blank k le (inl f) s = let e : take k bs ≡ [] = cc in let n : length (take k bs) ≡ 0 = ap length e in omega (arith, length-take-le k bs le)
     only lexis.blank k le (inr f) s = absurd (no_comment b h (comment_opens b (take k bs) (drop k bs) f))
     only lexis.name k le f s = absurd (let e = letter_no_space b s in cc)
@@ -94,12 +94,12 @@ reads_space b bs h = record { fits = record { within = omega arith; fits = inl (
 slash_no_letter : (b : ℕ) → is_letter b ≡ true → b ≡ 47 → ⊥
 slash_no_letter b s e = grind (arith, nat_tests)
 
-letters_only : (b : ℕ) (bs : List ℕ) → is_letter b ≡ true → (q : lexis.Piece) (k : ℕ) → k ≤ length bs → Fits q (b ∷ take k bs) (drop k bs) → First q b → suc k ≤ length (run (b ∷ bs))
+letters_only : (b : ℕ) (bs : List ℕ) → is_letter b ≡ true → (q : lexis.Piece) (k : ℕ) → k ≤ length bs → IsPiece q (b ∷ take k bs) (drop k bs) → First q b → suc k ≤ length (run (b ∷ bs))
 letters_only b bs h lexis.blank k le f (inl s) = absurd (let e = letter_no_space b h in cc)
 letters_only b bs h lexis.blank k le f (inr s) = absurd (slash_no_letter b h s)
-letters_only b bs h lexis.name k le f s = run_longest goes_on (b ∷ bs) (suc k) (omega arith) (letter_goes_on b h, f.0.1)
+letters_only b bs h lexis.name k le f s = run_longest continues_name (b ∷ bs) (suc k) (omega arith) (letter_goes_on b h, f.0.1)
 letters_only b bs h (lexis.number z) k le f s = absurd (let e = digit_no_letter b s in cc)
-letters_only b bs h (lexis.word w) k le f s = run_longest goes_on (b ∷ bs) (suc k) (omega arith) (let P : List ℕ → Type 0 = λ z. Each goes_on z in subst P (sym f) (word_goes_on w))
+letters_only b bs h (lexis.word w) k le f s = run_longest continues_name (b ∷ bs) (suc k) (omega arith) (let P : List ℕ → Type 0 = λ z. Each continues_name z in subst P (sym f) (word_goes_on w))
 letters_only b bs h (lexis.mark m) k le f s = absurd (let e = s.letter in cc)
 
 letters_longest : (b : ℕ) (bs : List ℕ) → is_letter b ≡ true → (q : lexis.Piece) (m : ℕ) → FitsAhead (b ∷ bs) q m → m ≤ length (run (b ∷ bs))
@@ -107,17 +107,17 @@ letters_longest b bs h q zero f = omega arith
 letters_longest b bs h q (suc k) f = letters_only b bs h q k (let w = f.within in omega arith) f.fits (first q b (take k bs) (drop k bs) f.fits)
 
 is_name : (b : ℕ) (bs : List ℕ) → is_letter b ≡ true → IsName (run (b ∷ bs))
-is_name b bs h = let g = letter_goes_on b h in rw (take_while-cons goes_on b bs, g) (h, run_each goes_on bs)
+is_name b bs h = let g = letter_goes_on b h in rw (take_while-cons continues_name b bs, g) (h, run_each continues_name bs)
 
-letters_fit : (bytes behind : List ℕ) → IsName bytes → (o : Option Word) → word_in words bytes ≡ o → Fits (shown (word_or_name o)) bytes behind
+letters_fit : (bytes behind : List ℕ) → IsName bytes → (o : Option Word) → word_in words bytes ≡ o → IsPiece (shown (word_or_name o)) bytes behind
 letters_fit bytes behind h None e = (h, λ r. word_none words bytes e r.0 (word_among r.0) r.1)
 letters_fit bytes behind h (Some w) e = word_found words bytes w e
 
 reads_letters : (b : ℕ) (bs : List ℕ) → is_letter b ≡ true → NextPiece (b ∷ bs) (shown (word_or_name (word_in words (run (b ∷ bs))))) (length (run (b ∷ bs)))
 reads_letters b bs h = record {
   fits = record {
-    within = run_within goes_on (b ∷ bs);
-    fits = rw (run_front goes_on (b ∷ bs)) (letters_fit (run (b ∷ bs)) (drop (length (run (b ∷ bs))) (b ∷ bs)) (is_name b bs h) (word_in words (run (b ∷ bs))) refl);
+    within = run_within continues_name (b ∷ bs);
+    fits = rw (run_front continues_name (b ∷ bs)) (letters_fit (run (b ∷ bs)) (drop (length (run (b ∷ bs))) (b ∷ bs)) (is_name b bs h) (word_in words (run (b ∷ bs))) refl);
   };
   longest = letters_longest b bs h;
 }
@@ -125,7 +125,7 @@ reads_letters b bs h = record {
 -- ---- numbers
 
 stops_run : ℕ → Bool
-stops_run b = not (goes_on b)
+stops_run b = not (continues_name b)
 
 slash_no_digit : (b : ℕ) → is_digit b ≡ true → b ≡ 47 → ⊥
 slash_no_digit b s e = grind (arith, nat_tests)
@@ -136,17 +136,17 @@ pub record Whole (text : List ℕ) (q : lexis.Piece) (m : ℕ) : Type 0 where
   pub long : m ≡ length (run text)
   pub number : IsInt (run text) int
 
-goes_apart : (b : ℕ) → goes_on b ≡ true → not (goes_on b) ≡ true → ⊥
+goes_apart : (b : ℕ) → continues_name b ≡ true → not (continues_name b) ≡ true → ⊥
 goes_apart b t f = let g : not true ≡ true = rw t at f in cc
 
-goes_or : (b : ℕ) → goes_on b ≡ false → not (goes_on b) ≡ true
+goes_or : (b : ℕ) → continues_name b ≡ false → not (continues_name b) ≡ true
 goes_or b e = rw e
 
 number_whole : (b : ℕ) (bs : List ℕ) (z : ℤ) (m : ℕ) → FitsAhead (b ∷ bs) (lexis.number z) m → Whole (b ∷ bs) (lexis.number z) m
 number_whole b bs z m f =
-    let n : m ≡ length (run (b ∷ bs)) = run_is goes_on (λ c. not (goes_on c)) goes_apart (b ∷ bs) m f.within (number_goes_on (take m (b ∷ bs)) f.fits.0.value f.fits.0.number) f.fits.1 in
+    let n : m ≡ length (run (b ∷ bs)) = run_is continues_name (λ c. not (continues_name c)) goes_apart (b ∷ bs) m f.within (number_goes_on (take m (b ∷ bs)) f.fits.0.value f.fits.0.number) f.fits.1 in
     let P : List ℕ → Type 0 = λ x. IsInt x z in
-    record { int = z; is = refl; long = n; number = subst P (ap (λ k. take k (b ∷ bs)) n ∙ run_front goes_on (b ∷ bs)) f.fits.0 }
+    record { int = z; is = refl; long = n; number = subst P (ap (λ k. take k (b ∷ bs)) n ∙ run_front continues_name (b ∷ bs)) f.fits.0 }
 
 number_only : (b : ℕ) (bs : List ℕ) → is_digit b ≡ true → (q : lexis.Piece) (k : ℕ) → FitsAhead (b ∷ bs) q (suc k) → First q b → Whole (b ∷ bs) q (suc k)
 number_only b bs h lexis.blank k f (inl s) = absurd (let e = digit_no_space b h in cc)
@@ -160,25 +160,25 @@ number_fits : (b : ℕ) (bs : List ℕ) → is_digit b ≡ true → (q : lexis.P
 number_fits b bs h q zero f = absurd (some_byte q (b ∷ bs) f.fits)
 number_fits b bs h q (suc k) f = number_only b bs h q k f (first q b (take k bs) (drop k bs) f.fits)
 
-run_cons : (b : ℕ) (bs : List ℕ) → goes_on b ≡ true → run (b ∷ bs) ≡ b ∷ run bs
-run_cons b bs g = rw (take_while-cons goes_on b bs, g)
+run_cons : (b : ℕ) (bs : List ℕ) → continues_name b ≡ true → run (b ∷ bs) ≡ b ∷ run bs
+run_cons b bs g = rw (take_while-cons continues_name b bs, g)
 
-int_of_run : (b : ℕ) (bs : List ℕ) (v : ℕ) → is_digit b ≡ true → number_of (run (b ∷ bs)) ≡ Some v → IsInt (run (b ∷ bs)) (cast_signed w32 v)
+int_of_run : (b : ℕ) (bs : List ℕ) (v : ℕ) → is_digit b ≡ true → lexed_number (run (b ∷ bs)) ≡ Some v → IsInt (run (b ∷ bs)) (cast_signed w32 v)
 int_of_run b bs v d e =
     let c = run_cons b bs (digit_goes_on b d) in
-    let r = number_sound b (run bs) v d (ap number_of (sym c) ∙ e) in
+    let r = number_sound b (run bs) v d (ap lexed_number (sym c) ∙ e) in
     let P : List ℕ → Type 0 = λ x. IsInt x (cast_signed w32 v) in
     subst P (sym c) (record { value = v; number = r.number; small = r.small; same_bits = refl })
 
 reads_number : (b : ℕ) (bs : List ℕ) → is_digit b ≡ true → Reads (b ∷ bs) (number_ahead (b ∷ bs))
-reads_number b bs d = by (number_of (run (b ∷ bs))) refl
+reads_number b bs d = by (lexed_number (run (b ∷ bs))) refl
   where
-    by : (o : Option ℕ) → number_of (run (b ∷ bs)) ≡ o → Reads (b ∷ bs) (option_map (λ value. (piece.Number (cast_signed w32 value), length (run (b ∷ bs)))) o)
+    by : (o : Option ℕ) → lexed_number (run (b ∷ bs)) ≡ o → Reads (b ∷ bs) (option_map (λ value. (piece.Number (cast_signed w32 value), length (run (b ∷ bs)))) o)
     by None e = λ q m f. let w = number_fits b bs d q m f in let k = number_complete (run (b ∷ bs)) w.number.value w.number.number w.number.small in cc
     by (Some v) e = record {
       fits = record {
-        within = run_within goes_on (b ∷ bs);
-        fits = (let P : List ℕ → Type 0 = λ x. IsInt x (cast_signed w32 v) in subst P (sym (run_front goes_on (b ∷ bs))) (int_of_run b bs v d e), run_ends goes_on (λ c. not (goes_on c)) goes_or (b ∷ bs));
+        within = run_within continues_name (b ∷ bs);
+        fits = (let P : List ℕ → Type 0 = λ x. IsInt x (cast_signed w32 v) in subst P (sym (run_front continues_name (b ∷ bs))) (int_of_run b bs v d e), run_ends continues_name (λ c. not (continues_name c)) goes_or (b ∷ bs));
       };
       longest = λ q m f. let w = (number_fits b bs d q m f).long in omega arith;
     }
@@ -194,7 +194,7 @@ opens_same text m o = let P : List ℕ → Type 0 = λ z. OpensComment z in subs
 head_space : (b c : ℕ) (bs : List ℕ) → is_space c ≡ true → b ∷ bs ≡ c ∷ [] → is_space b ≡ true
 head_space b c bs s e = let k : b ≡ c = cc in rw k s
 
-opened_part : (b c : ℕ) (cs : List ℕ) → NoRun b → OpensComment (b ∷ c ∷ cs) → (q : lexis.Piece) (k : ℕ) → Fits q (take (suc k) (b ∷ c ∷ cs)) (drop (suc k) (b ∷ c ∷ cs)) → First q b → Comment b c cs (suc k)
+opened_part : (b c : ℕ) (cs : List ℕ) → NoRun b → OpensComment (b ∷ c ∷ cs) → (q : lexis.Piece) (k : ℕ) → IsPiece q (take (suc k) (b ∷ c ∷ cs)) (drop (suc k) (b ∷ c ∷ cs)) → First q b → Comment b c cs (suc k)
 opened_part b c cs sort o lexis.blank k (inl f) s = absurd (let e = sort.space in let t = head_space b f.0 (take k (c ∷ cs)) f.1 f.2 in cc)
 opened_part b c cs sort o lexis.blank k (inr f) s = comment_is b c cs (suc k) f
 opened_part b c cs sort o lexis.name k f s = absurd (let e = sort.letter in cc)
@@ -280,7 +280,7 @@ pub record Signed (text : List ℕ) (q : lexis.Piece) (m : ℕ) : Type 0 where
   pub long : m ≡ length (spelling mark)
   pub begins : Begins (spelling mark) text
 
-mark_part : (b : ℕ) (bs : List ℕ) → NoRun b → (OpensComment (b ∷ bs) → ⊥) → (q : lexis.Piece) (k : ℕ) → FitsAhead (b ∷ bs) q (suc k) → Fits q (take (suc k) (b ∷ bs)) (drop (suc k) (b ∷ bs)) → First q b → Signed (b ∷ bs) q (suc k)
+mark_part : (b : ℕ) (bs : List ℕ) → NoRun b → (OpensComment (b ∷ bs) → ⊥) → (q : lexis.Piece) (k : ℕ) → FitsAhead (b ∷ bs) q (suc k) → IsPiece q (take (suc k) (b ∷ bs)) (drop (suc k) (b ∷ bs)) → First q b → Signed (b ∷ bs) q (suc k)
 mark_part b bs sort o lexis.blank k w (inl f) s = absurd (let e = sort.space in let t = head_space b f.0 (take k bs) f.1 f.2 in cc)
 mark_part b bs sort o lexis.blank k w (inr f) s = absurd (o (opens_by_comment b bs (suc k) f))
 mark_part b bs sort o lexis.name k w f s = absurd (let e = sort.letter in cc)
@@ -354,13 +354,13 @@ reads_sign b (c ∷ cs) sort = by_line (starts_with nat_eq (b ∷ c ∷ cs) (cod
 
 -- ---- the front
 
-empty_take : (m : ℕ) → m ≤ 0 → (q : lexis.Piece) → Fits q (take m []) (drop m []) → ⊥
+empty_take : (m : ℕ) → m ≤ 0 → (q : lexis.Piece) → IsPiece q (take m []) (drop m []) → ⊥
 empty_take zero le q f = some_byte q [] f
 empty_take (suc m) le q f = absurd (omega arith)
 
 -- The code reads the longest piece at the front, and none exactly where none fits.
-pub reads : (text : List ℕ) → Reads text (front text)
-unfolding front
+pub reads : (text : List ℕ) → Reads text (piece_ahead text)
+unfolding piece_ahead
 reads [] = λ q m f. empty_take m f.within q f.fits
 reads (b ∷ bs) = by_space (is_space b) refl
   where
@@ -382,7 +382,7 @@ some_size : (text : List ℕ) (p : lexis.Piece) (n : ℕ) → NextPiece text p n
 some_size text p zero r = absurd (some_byte p text r.fits.fits)
 some_size text p (suc n) r = omega arith
 
-ascii_each : (bs : List ℕ) → Each goes_on bs → IsAscii bs
+ascii_each : (bs : List ℕ) → Each continues_name bs → IsAscii bs
 ascii_each [] h i = omega arith
 ascii_each (b ∷ bs) h zero = goes_on_ascii b h.0
 ascii_each (b ∷ bs) h (suc i) = ascii_each bs h.1 i
@@ -391,7 +391,7 @@ ascii_name : (bs : List ℕ) → IsName bs → IsAscii bs
 ascii_name [] h = absurd h
 ascii_name (b ∷ bs) h = ascii_each (b ∷ bs) (letter_goes_on b h.0, h.1)
 
-fits_text : (p : Piece) (bytes behind : List ℕ) → Fits (shown p) bytes behind → IsText p bytes
+fits_text : (p : Piece) (bytes behind : List ℕ) → IsPiece (shown p) bytes behind → IsText p bytes
 fits_text piece.Blank bytes behind f = tt
 fits_text piece.Name bytes behind f = ascii_name bytes f.0
 fits_text (piece.Number z) bytes behind f = tt
@@ -407,5 +407,5 @@ pub record Read (text : List ℕ) (p : Piece) (n : ℕ) : Type 0 where
 pub read_of : (text : List ℕ) (p : Piece) (n : ℕ) → NextPiece text (shown p) n → Read text p n
 read_of text p n r = record { next = r; some = some_size text (shown p) n r; within = r.fits.within; letters = fits_text p (take n text) (drop n text) r.fits.fits }
 
-pub reads_as : (text : List ℕ) (o : Option (Piece × ℕ)) → o ≡ front text → Reads text o
+pub reads_as : (text : List ℕ) (o : Option (Piece × ℕ)) → o ≡ piece_ahead text → Reads text o
 reads_as text o e = let P : Option (Piece × ℕ) → Type 0 = λ z. Reads text z in subst P (sym e) (reads text)

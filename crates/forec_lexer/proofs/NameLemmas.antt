@@ -4,7 +4,7 @@ use Rattle.std.specs.List.{slice_get, list_any, position_or_len}
 use Rattle.std.specs.Borrow.{Bor}
 use Rattle.std.specs.Str.{bytes_eq}
 use Rattle.std.proofs.lemmas.Slice.Eq.{bytes_eq-Decides}
-use Rattle.forec_tree.specs.LexedText.{number_of, with_name, AreDistinct}
+use Rattle.forec_tree.specs.LexedText.{name_number, with_spelt_name, AreDistinct}
 
 -- ---- the set of names
 
@@ -14,11 +14,11 @@ same x y = bytes_eq x.now y.now
 abbrev pub text_of : Bor (List ℕ) → List ℕ
 text_of s = s.now
 
-pub number_is : (keys : List (Bor (List ℕ))) (k : Bor (List ℕ)) → position_or_len (same k) keys ≡ number_of (map text_of keys) k.now
+pub number_is : (keys : List (Bor (List ℕ))) (k : Bor (List ℕ)) → position_or_len (same k) keys ≡ name_number (map text_of keys) k.now
 number_is [] k = refl
 number_is (x ∷ xs) k = by (bytes_eq k.now x.now) refl (number_is xs k)
   where
-    by : (t : Bool) → bytes_eq k.now x.now ≡ t → position_or_len (same k) xs ≡ number_of (map text_of xs) k.now → position_or_len (same k) (x ∷ xs) ≡ number_of (map text_of (x ∷ xs)) k.now
+    by : (t : Bool) → bytes_eq k.now x.now ≡ t → position_or_len (same k) xs ≡ name_number (map text_of xs) k.now → position_or_len (same k) (x ∷ xs) ≡ name_number (map text_of (x ∷ xs)) k.now
     by true e ih = rw e
     by false e ih = rw (e, ih) (omega arith)
 
@@ -26,34 +26,34 @@ any_text : (spelt : List ℕ) (keys : List (Bor (List ℕ))) → list_any (bytes
 any_text spelt [] = refl
 any_text spelt (k ∷ ks) = ap (λ b. bytes_eq spelt k.now || b) (any_text spelt ks)
 
-with_old : (ns : List (List ℕ)) (spelt : List ℕ) → list_any (bytes_eq spelt) ns ≡ true → with_name ns spelt ≡ ns
+with_old : (ns : List (List ℕ)) (spelt : List ℕ) → list_any (bytes_eq spelt) ns ≡ true → with_spelt_name ns spelt ≡ ns
 with_old [] spelt h = absurd (cc)
 with_old (n ∷ ns) spelt h = by (bytes_eq spelt n) refl (with_old ns spelt)
   where
-    by : (t : Bool) → bytes_eq spelt n ≡ t → (list_any (bytes_eq spelt) ns ≡ true → with_name ns spelt ≡ ns) → with_name (n ∷ ns) spelt ≡ n ∷ ns
+    by : (t : Bool) → bytes_eq spelt n ≡ t → (list_any (bytes_eq spelt) ns ≡ true → with_spelt_name ns spelt ≡ ns) → with_spelt_name (n ∷ ns) spelt ≡ n ∷ ns
     by true e ih = rw e
     by false e ih = rw (e, ih (rw e at h))
 
-with_new : (ns : List (List ℕ)) (spelt : List ℕ) → list_any (bytes_eq spelt) ns ≡ false → with_name ns spelt ≡ ns ++ spelt ∷ []
+with_new : (ns : List (List ℕ)) (spelt : List ℕ) → list_any (bytes_eq spelt) ns ≡ false → with_spelt_name ns spelt ≡ ns ++ spelt ∷ []
 with_new [] spelt h = refl
 with_new (n ∷ ns) spelt h = by (bytes_eq spelt n) refl (with_new ns spelt)
   where
-    by : (t : Bool) → bytes_eq spelt n ≡ t → (list_any (bytes_eq spelt) ns ≡ false → with_name ns spelt ≡ ns ++ spelt ∷ []) → with_name (n ∷ ns) spelt ≡ n ∷ (ns ++ spelt ∷ [])
+    by : (t : Bool) → bytes_eq spelt n ≡ t → (list_any (bytes_eq spelt) ns ≡ false → with_spelt_name ns spelt ≡ ns ++ spelt ∷ []) → with_spelt_name (n ∷ ns) spelt ≡ n ∷ (ns ++ spelt ∷ [])
     by true e ih = absurd (let f : true ≡ false = rw e at h in cc)
     by false e ih = rw (e, ih (rw e at h))
 
-pub after_old : (keys : List (Bor (List ℕ))) (k : Bor (List ℕ)) (labels : List (List ℕ)) → map text_of keys ≡ labels → list_any (same k) keys ≡ true → labels ≡ with_name labels k.now
+pub after_old : (keys : List (Bor (List ℕ))) (k : Bor (List ℕ)) (labels : List (List ℕ)) → map text_of keys ≡ labels → list_any (same k) keys ≡ true → labels ≡ with_spelt_name labels k.now
 after_old keys k labels e h =
     let t : list_any (bytes_eq k.now) labels ≡ true = ap (list_any (bytes_eq k.now)) (sym e) ∙ any_text k.now keys ∙ h in
     sym (with_old labels k.now t)
 
-pub after_new : (keys : List (Bor (List ℕ))) (k : Bor (List ℕ)) (labels : List (List ℕ)) → map text_of keys ≡ labels → list_any (same k) keys ≡ false → labels ++ k.now ∷ [] ≡ with_name labels k.now
+pub after_new : (keys : List (Bor (List ℕ))) (k : Bor (List ℕ)) (labels : List (List ℕ)) → map text_of keys ≡ labels → list_any (same k) keys ≡ false → labels ++ k.now ∷ [] ≡ with_spelt_name labels k.now
 after_new keys k labels e h =
     let t : list_any (bytes_eq k.now) labels ≡ false = ap (list_any (bytes_eq k.now)) (sym e) ∙ any_text k.now keys ∙ h in
     sym (with_new labels k.now t)
 
-pub number_among : (keys : List (Bor (List ℕ))) (k : Bor (List ℕ)) (labels : List (List ℕ)) (id : ℕ) → map text_of keys ≡ labels → id ≡ position_or_len (same k) keys → id ≡ number_of labels k.now
-number_among keys k labels id e h = h ∙ number_is keys k ∙ ap (λ z. number_of z k.now) e
+pub number_among : (keys : List (Bor (List ℕ))) (k : Bor (List ℕ)) (labels : List (List ℕ)) (id : ℕ) → map text_of keys ≡ labels → id ≡ position_or_len (same k) keys → id ≡ name_number labels k.now
+number_among keys k labels id e h = h ∙ number_is keys k ∙ ap (λ z. name_number z k.now) e
 
 -- ---- the names are distinct, and each has its number
 
@@ -63,33 +63,33 @@ some_name n = Some n
 same_name : (m n : List ℕ) → some_name m ≡ some_name n → m ≡ n
 same_name m n h = cc
 
-pub spelt_there : (ns : List (List ℕ)) (spelt : List ℕ) → slice_get (with_name ns spelt) (number_of ns spelt) ≡ Some spelt
+pub spelt_there : (ns : List (List ℕ)) (spelt : List ℕ) → slice_get (with_spelt_name ns spelt) (name_number ns spelt) ≡ Some spelt
 spelt_there [] spelt = refl
 spelt_there (n ∷ ns) spelt = by (bytes_eq spelt n) refl (spelt_there ns spelt)
   where
-    by : (t : Bool) → bytes_eq spelt n ≡ t → slice_get (with_name ns spelt) (number_of ns spelt) ≡ Some spelt
-        → slice_get (cond t (n ∷ ns) (n ∷ with_name ns spelt)) (cond t zero (suc (number_of ns spelt))) ≡ Some spelt
+    by : (t : Bool) → bytes_eq spelt n ≡ t → slice_get (with_spelt_name ns spelt) (name_number ns spelt) ≡ Some spelt
+        → slice_get (cond t (n ∷ ns) (n ∷ with_spelt_name ns spelt)) (cond t zero (suc (name_number ns spelt))) ≡ Some spelt
     by true e ih = ap some_name (sym ((bytes_eq-Decides spelt n).0 e))
     by false e ih = ih
 
-pub name_kept : (ns : List (List ℕ)) (spelt : List ℕ) (i : ℕ) (x : List ℕ) → slice_get ns i ≡ Some x → slice_get (with_name ns spelt) i ≡ Some x
+pub name_kept : (ns : List (List ℕ)) (spelt : List ℕ) (i : ℕ) (x : List ℕ) → slice_get ns i ≡ Some x → slice_get (with_spelt_name ns spelt) i ≡ Some x
 name_kept [] spelt i x h = absurd (cc)
 name_kept (n ∷ ns) spelt zero x h = by (bytes_eq spelt n)
   where
-    by : (t : Bool) → slice_get (cond t (n ∷ ns) (n ∷ with_name ns spelt)) zero ≡ Some x
+    by : (t : Bool) → slice_get (cond t (n ∷ ns) (n ∷ with_spelt_name ns spelt)) zero ≡ Some x
     by true = h
     by false = h
 name_kept (n ∷ ns) spelt (suc i) x h = by (bytes_eq spelt n) (name_kept ns spelt i x h)
   where
-    by : (t : Bool) → slice_get (with_name ns spelt) i ≡ Some x → slice_get (cond t (n ∷ ns) (n ∷ with_name ns spelt)) (suc i) ≡ Some x
+    by : (t : Bool) → slice_get (with_spelt_name ns spelt) i ≡ Some x → slice_get (cond t (n ∷ ns) (n ∷ with_spelt_name ns spelt)) (suc i) ≡ Some x
     by true ih = h
     by false ih = ih
 
-pub names_more : (ns : List (List ℕ)) (spelt : List ℕ) → length (with_name ns spelt) ≤ suc (length ns)
+pub names_more : (ns : List (List ℕ)) (spelt : List ℕ) → length (with_spelt_name ns spelt) ≤ suc (length ns)
 names_more [] spelt = omega arith
 names_more (n ∷ ns) spelt = by (bytes_eq spelt n) (names_more ns spelt)
   where
-    by : (t : Bool) → length (with_name ns spelt) ≤ suc (length ns) → length (cond t (n ∷ ns) (n ∷ with_name ns spelt)) ≤ suc (suc (length ns))
+    by : (t : Bool) → length (with_spelt_name ns spelt) ≤ suc (length ns) → length (cond t (n ∷ ns) (n ∷ with_spelt_name ns spelt)) ≤ suc (suc (length ns))
     by true ih = omega arith
     by false ih = omega arith
 
@@ -123,10 +123,10 @@ push_distinct ns spelt d h i j x a b = by (at_push ns spelt x i a) (at_push ns s
     by (inr e) (inl f) = absurd (no_old j e.1 f)
     by (inr e) (inr f) = e.0 ∙ sym f.0
 
-pub with_distinct : (ns : List (List ℕ)) (spelt : List ℕ) → AreDistinct ns → AreDistinct (with_name ns spelt)
+pub with_distinct : (ns : List (List ℕ)) (spelt : List ℕ) → AreDistinct ns → AreDistinct (with_spelt_name ns spelt)
 with_distinct ns spelt d = by (list_any (bytes_eq spelt) ns) refl
   where
-    by : (t : Bool) → list_any (bytes_eq spelt) ns ≡ t → AreDistinct (with_name ns spelt)
+    by : (t : Bool) → list_any (bytes_eq spelt) ns ≡ t → AreDistinct (with_spelt_name ns spelt)
     by true e = let Q : List (List ℕ) → Type 0 = λ z. AreDistinct z in subst Q (sym (with_old ns spelt e)) d
     by false e = let Q : List (List ℕ) → Type 0 = λ z. AreDistinct z in subst Q (sym (with_new ns spelt e)) (push_distinct ns spelt d e)
 

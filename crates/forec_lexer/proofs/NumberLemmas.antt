@@ -2,8 +2,8 @@
 use Rattle.std.proofs.Common.{◌≡◌, ℕ, ◌+◌, ◌*◌, ◌≤◌, Bool, true, false, nat_le, cond, ◌||◌, ◌==◌, ◌⊎◌, inl, inr, List, [], ◌∷◌, ◌++◌, Option, Some, None, refl, sym, ap, subst, ◌∙◌, arith, codes}
 use Rattle.std.specs.List.{fold}
 use Rattle.std.proofs.lemmas.Bool.Decides.{nat_tests}
-use Rattle.forec_tree.specs.Lexis.{is_digit, goes_on, digit_of, is_digit_in, value_in, Each, IsNumber, decimal, octal, hexadecimal}
-use Rattle.forec_lexer.specs.Reading.{value_from, number_of, after_zero}
+use Rattle.forec_tree.specs.Lexis.{is_digit, continues_name, digit_of, is_digit_in, value_in_base, Each, IsNumber, decimal, octal, hexadecimal}
+use Rattle.forec_lexer.specs.Reading.{value_from, lexed_number, after_zero}
 use Rattle.forec_lexer.specs.Reading as reading
 use Rattle.forec_lexer.proofs.Runs.{each_by}
 
@@ -12,11 +12,11 @@ total base value ds = fold (λ v b. v * base + digit_of b) value ds
 
 -- ---- digits
 
-pub digit_goes_on : (base b : ℕ) → base ≤ 16 → is_digit_in base b ≡ true → goes_on b ≡ true
+pub digit_goes_on : (base b : ℕ) → base ≤ 16 → is_digit_in base b ≡ true → continues_name b ≡ true
 digit_goes_on base b le h = grind (arith, nat_tests)
 
-pub digits_go_on : (base : ℕ) (bs : List ℕ) → base ≤ 16 → Each (is_digit_in base) bs → Each goes_on bs
-digits_go_on base bs le h = each_by (is_digit_in base) goes_on (λ b e. digit_goes_on base b le e) bs h
+pub digits_go_on : (base : ℕ) (bs : List ℕ) → base ≤ 16 → Each (is_digit_in base) bs → Each continues_name bs
+digits_go_on base bs le h = each_by (is_digit_in base) continues_name (λ b e. digit_goes_on base b le e) bs h
 
 decimal_digit : (b : ℕ) → 49 ≤ b → b ≤ 57 → is_digit_in 10 b ≡ true
 decimal_digit b lo hi = grind (arith, nat_tests)
@@ -107,7 +107,7 @@ behind_read b (x ∷ ds) v z h = by (x == 120 || x == 88) refl h
     by false e k = octal_read b (x ∷ ds) v z k
 
 -- What is read as a number is one.
-pub number_sound : (b : ℕ) (bs : List ℕ) (v : ℕ) → is_digit b ≡ true → number_of (b ∷ bs) ≡ Some v → Denoted (b ∷ bs) v
+pub number_sound : (b : ℕ) (bs : List ℕ) (v : ℕ) → is_digit b ≡ true → lexed_number (b ∷ bs) ≡ Some v → Denoted (b ∷ bs) v
 number_sound b bs v d h = by (b == 48) refl h
   where
     by : (t : Bool) → (b == 48) ≡ t → cond t (after_zero bs) (value_from 10 0 (b ∷ bs)) ≡ Some v → Denoted (b ∷ bs) v
@@ -125,34 +125,34 @@ hex_behind x d ds (inl e) = rw e
 hex_behind x d ds (inr e) = rw e
 
 -- Each number is read.
-pub number_complete : (bytes : List ℕ) (v : ℕ) → IsNumber bytes v → v ≤ 4294967295 → number_of bytes ≡ Some v
+pub number_complete : (bytes : List ℕ) (v : ℕ) → IsNumber bytes v → v ≤ 4294967295 → lexed_number bytes ≡ Some v
 number_complete bytes v (decimal d ds e lo hi h is) s =
-    let k : v ≡ total 10 0 (d ∷ ds) = is ∙ ap (value_in 10) e in
-    ap number_of e ∙ by k (d == 48) refl ∙ ap some_of (sym k)
+    let k : v ≡ total 10 0 (d ∷ ds) = is ∙ ap (value_in_base 10) e in
+    ap lexed_number e ∙ by k (d == 48) refl ∙ ap some_of (sym k)
   where
     by : v ≡ total 10 0 (d ∷ ds) → (t : Bool) → (d == 48) ≡ t → cond t (after_zero ds) (value_from 10 0 (d ∷ ds)) ≡ Some (total 10 0 (d ∷ ds))
     by k true f = absurd (grind (arith, nat_tests))
     by k false f = value_complete 10 (λ n. omega arith) 0 (d ∷ ds) (decimal_digit d lo hi, h) (omega (arith, k, s))
 number_complete bytes v (octal ds e h is) s =
     let k : v ≡ total 8 0 ds = is in
-    ap number_of e ∙ octal_behind ds h ∙ value_complete 8 (λ n. omega arith) 0 ds h (omega (arith, k, s)) ∙ ap some_of (sym k)
+    ap lexed_number e ∙ octal_behind ds h ∙ value_complete 8 (λ n. omega arith) 0 ds h (omega (arith, k, s)) ∙ ap some_of (sym k)
 number_complete bytes v (hexadecimal d ds p h is) s =
     let k : v ≡ total 16 0 (d ∷ ds) = is in
     read p ∙ value_complete 16 (λ n. omega arith) 0 (d ∷ ds) h (omega (arith, k, s)) ∙ ap some_of (sym k)
   where
-    read : (bytes ≡ codes "0x" ++ d ∷ ds) ⊎ (bytes ≡ codes "0X" ++ d ∷ ds) → number_of bytes ≡ value_from 16 0 (d ∷ ds)
-    read (inl e) = ap number_of e
-    read (inr e) = ap number_of e
+    read : (bytes ≡ codes "0x" ++ d ∷ ds) ⊎ (bytes ≡ codes "0X" ++ d ∷ ds) → lexed_number bytes ≡ value_from 16 0 (d ∷ ds)
+    read (inl e) = ap lexed_number e
+    read (inr e) = ap lexed_number e
 
 -- ---- the bytes of a number
 
-pub number_goes_on : (bytes : List ℕ) (v : ℕ) → IsNumber bytes v → Each goes_on bytes
+pub number_goes_on : (bytes : List ℕ) (v : ℕ) → IsNumber bytes v → Each continues_name bytes
 number_goes_on bytes v (decimal d ds e lo hi h is) =
-    let P : List ℕ → Type 0 = λ z. Each goes_on z in
+    let P : List ℕ → Type 0 = λ z. Each continues_name z in
     subst P (sym e) (digit_goes_on 10 d (omega arith) (decimal_digit d lo hi), digits_go_on 10 ds (omega arith) h)
-number_goes_on bytes v (octal ds e h is) = let P : List ℕ → Type 0 = λ z. Each goes_on z in subst P (sym e) (refl, digits_go_on 8 ds (omega arith) h)
-number_goes_on bytes v (hexadecimal d ds (inl e) h is) = let P : List ℕ → Type 0 = λ z. Each goes_on z in subst P (sym e) (refl, (refl, digits_go_on 16 (d ∷ ds) (omega arith) h))
-number_goes_on bytes v (hexadecimal d ds (inr e) h is) = let P : List ℕ → Type 0 = λ z. Each goes_on z in subst P (sym e) (refl, (refl, digits_go_on 16 (d ∷ ds) (omega arith) h))
+number_goes_on bytes v (octal ds e h is) = let P : List ℕ → Type 0 = λ z. Each continues_name z in subst P (sym e) (refl, digits_go_on 8 ds (omega arith) h)
+number_goes_on bytes v (hexadecimal d ds (inl e) h is) = let P : List ℕ → Type 0 = λ z. Each continues_name z in subst P (sym e) (refl, (refl, digits_go_on 16 (d ∷ ds) (omega arith) h))
+number_goes_on bytes v (hexadecimal d ds (inr e) h is) = let P : List ℕ → Type 0 = λ z. Each continues_name z in subst P (sym e) (refl, (refl, digits_go_on 16 (d ∷ ds) (omega arith) h))
 
 pub number_first : (b : ℕ) (bs : List ℕ) (v : ℕ) → IsNumber (b ∷ bs) v → is_digit b ≡ true
 number_first b bs v (decimal d ds e lo hi h is) = let k : b ≡ d = cc in grind (arith, nat_tests)

@@ -7,8 +7,8 @@ use Rattle.forec_tree.specs.declared.token.Word.{Word}
 use Rattle.forec_tree.specs.declared.token.Mark.{Mark}
 use Rattle.forec_tree.specs.declared.token.Token.{Token}
 use Rattle.forec_tree.specs.declared.token.TokenKind.{TokenKind}
-use Rattle.forec_tree.specs.Lexis.{is_space, is_letter, is_digit, spelling, IsComment, block, line, IsInt, OpensComment, Piece, blank, name, number, word, mark, Fits, NextPiece, NothingFits}
-use Rattle.forec_tree.specs.LexedText.{kind_of, names_after, token_at, place_at, slice, Cuts, begins, skips, takes, Lexes, IsLexed, IsBad, IsMany}
+use Rattle.forec_tree.specs.Lexis.{is_space, is_letter, is_digit, spelling, IsComment, block, line, IsInt, OpensComment, Piece, blank, name, number, word, mark, IsPiece, NextPiece, NothingFits}
+use Rattle.forec_tree.specs.LexedText.{token_kind_of, names_after, token_at, place_at, slice, Cuts, begins, skips, takes, Lexes, IsLexed, IsBad, IsMany}
 use Rattle.forec_lexer.specs.Reading.{words, word_in, marks, mark_ahead}
 use Rattle.forec_lexer.proofs.NumberLemmas.{number_complete}
 use Rattle.forec_lexer.proofs.EachSpelling.{NoRun, word_back, mark_back}
@@ -34,7 +34,7 @@ digit_no_blank : (b : ℕ) → is_digit b ≡ true → (is_space b ≡ true) ⊎
 digit_no_blank b d (inl s) = let e = digit_no_space b d in cc
 digit_no_blank b d (inr s) = slash_no_digit b d s
 
-mark_no_blank : (m : Mark) (b : ℕ) (bs behind : List ℕ) → NoRun b → Fits (mark m) (b ∷ bs) behind → Fits blank (b ∷ bs) behind → ⊥
+mark_no_blank : (m : Mark) (b : ℕ) (bs behind : List ℕ) → NoRun b → IsPiece (mark m) (b ∷ bs) behind → IsPiece blank (b ∷ bs) behind → ⊥
 mark_no_blank m b bs behind n f (inl g) = let k : b ≡ g.0 = cc in let t : is_space b ≡ true = rw k g.1 in let e = n.space in cc
 mark_no_blank m b bs behind n f (inr g) = f.1 (comment_open (b ∷ bs) behind g)
 
@@ -62,7 +62,7 @@ one_int bytes y z f g =
     let b = number_complete bytes g.value g.number g.small in
     f.same_bits ∙ ap (cast_signed w32) (same_nat f.value g.value (sym a ∙ b)) ∙ sym g.same_bits
 
-one_piece : (p q : Piece) (b : ℕ) (bs behind : List ℕ) → Fits p (b ∷ bs) behind → Fits q (b ∷ bs) behind → First p b → First q b → p ≡ q
+one_piece : (p q : Piece) (b : ℕ) (bs behind : List ℕ) → IsPiece p (b ∷ bs) behind → IsPiece q (b ∷ bs) behind → First p b → First q b → p ≡ q
 one_piece blank blank b bs behind f g s t = refl
 one_piece blank name b bs behind f g s t = absurd (letter_no_blank b t s)
 one_piece blank (number z) b bs behind f g s t = absurd (digit_no_blank b t s)
@@ -89,7 +89,7 @@ one_piece (mark m) (number z) b bs behind f g s t = absurd (let e = s.digit in c
 one_piece (mark m) (word w) b bs behind f g s t = absurd (let e = s.letter in cc)
 one_piece (mark m) (mark x) b bs behind f g s t = ap mark (same_mark m x (sym (mark_back m) ∙ ap (mark_ahead marks) (sym f.0 ∙ g.0) ∙ mark_back x))
 
-one_sort : (p q : Piece) (bs behind : List ℕ) → Fits p bs behind → Fits q bs behind → p ≡ q
+one_sort : (p q : Piece) (bs behind : List ℕ) → IsPiece p bs behind → IsPiece q bs behind → p ≡ q
 one_sort p q [] behind f g = absurd (some_byte p behind f)
 one_sort p q (b ∷ bs) behind f g = one_piece p q b bs behind f g (first p b bs behind f) (first q b bs behind g)
 
@@ -98,7 +98,7 @@ next_one text p q n m x y =
     let a : m ≤ n = x.longest q m y.fits in
     let b : n ≤ m = y.longest p n x.fits in
     let same : m ≡ n = omega arith in
-    let P : ℕ → Type 0 = λ z. Fits q (take z text) (drop z text) in
+    let P : ℕ → Type 0 = λ z. IsPiece q (take z text) (drop z text) in
     (one_sort p q (take n text) (drop n text) x.fits.fits (subst P same y.fits.fits), sym same)
 
 -- ---- from piece to piece
@@ -117,7 +117,7 @@ given text s p n None = state s.tokens s.names (s.at + n)
 given text s p n (Some k) = state (s.tokens ++ token_at text s.at n k ∷ []) (names_after s.names p (slice text s.at n)) (s.at + n)
 
 abbrev behind_piece : List ℕ → State → Piece → ℕ → State
-behind_piece text s p n = given text s p n (kind_of s.names p (slice text s.at n))
+behind_piece text s p n = given text s p n (token_kind_of s.names p (slice text s.at n))
 
 pub record TakesPiece (text : List ℕ) (s t : State) : Type 0 where
   pub piece : Piece
@@ -171,7 +171,7 @@ longer : {text : List ℕ} {s t : State} → TakesPieces text s t → Longer s.t
 longer {s} stays = record { more = []; are = sym (append-nil s.tokens) }
 longer {text} (goes {s} {t} {u} x g) =
     let r = longer g in
-    let q = step_longer text s x.piece x.size (kind_of s.names x.piece (slice text s.at x.size)) in
+    let q = step_longer text s x.piece x.size (token_kind_of s.names x.piece (slice text s.at x.size)) in
     let e : t.tokens ≡ s.tokens ++ q.more = ap (λ z. z.tokens) x.is ∙ q.are in
     record { more = q.more ++ r.more; are = r.are ∙ ap (λ z. z ++ r.more) e ∙ append_assoc s.tokens q.more r.more }
 

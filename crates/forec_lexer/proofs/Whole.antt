@@ -12,10 +12,10 @@ use Rattle.forec_tree.specs.declared.token.Token.{Token}
 use Rattle.forec_tree.specs.declared.token.TokenKind.{TokenKind}
 use Rattle.forec_tree.specs.declared.token.TokenKind.TheVariants as kind
 use Rattle.forec_tree.specs.Lexis.{Piece, blank, name, number, word, mark, is_line_end, NextPiece, NothingFits}
-use Rattle.forec_tree.specs.LexedText.{place_after, first_place, place_at, number_of, with_name, kind_of, names_after, token_at, slice, Cuts, begins, skips, takes, IsLexed, IsBad, AreDistinct, IsSpelt, NumbersSpellings, AreInOrder, bytes_of}
+use Rattle.forec_tree.specs.LexedText.{place_after, first_place, place_at, name_number, with_spelt_name, token_kind_of, names_after, token_at, slice, Cuts, begins, skips, takes, IsLexed, IsBad, AreDistinct, IsSpelt, NumbersSpellings, AreInOrder, token_bytes}
 use Rattle.forec_lexer.specs.declared.fault.LexFault.{LexFault}
 use Rattle.forec_lexer.specs.declared.fault.LexFault.TheVariants as fault
-use Rattle.forec_lexer.specs.Answers.{kept, IsFull, HasCause}
+use Rattle.forec_lexer.specs.Answers.{kept, IsFull, HasLexCause}
 use Rattle.forec_lexer.proofs.FrontLemmas.{some_byte}
 use Rattle.forec_lexer.proofs.NameLemmas.{spelt_there, name_kept, names_more, with_distinct}
 
@@ -57,7 +57,7 @@ start text tokens names t n =
     let Q : List (List ℕ) → Type 0 = λ z. Cuts text tokens z 0 in
     subst Q (sym n) (subst P (sym t) begins)
 
-blank_only : (names : List (List ℕ)) (p : Piece) (bytes : List ℕ) → None ≡ kind_of names p bytes → p ≡ blank
+blank_only : (names : List (List ℕ)) (p : Piece) (bytes : List ℕ) → None ≡ token_kind_of names p bytes → p ≡ blank
 blank_only names blank bytes h = refl
 blank_only names name bytes h = absurd (cc)
 blank_only names (number z) bytes h = absurd (cc)
@@ -65,7 +65,7 @@ blank_only names (word w) bytes h = absurd (cc)
 blank_only names (mark m) bytes h = absurd (cc)
 
 pub turn : (text : List ℕ) (tokens : List Token) (names after : List (List ℕ)) (at n : ℕ) (p : Piece) (k : Option TokenKind) → Cuts text tokens names at → NextPiece (drop at text) p n
-    → k ≡ kind_of names p (slice text at n) → after ≡ names_after names p (slice text at n) → Cuts text (kept tokens k at (at + n) (place_at text at)) after (at + n)
+    → k ≡ token_kind_of names p (slice text at n) → after ≡ names_after names p (slice text at n) → Cuts text (kept tokens k at (at + n) (place_at text at)) after (at + n)
 turn text tokens names after at n p None c x h e =
     let b = blank_only names p (slice text at n) h in
     let P : Piece → Type 0 = λ z. NextPiece (drop at text) z n in
@@ -77,7 +77,7 @@ turn text tokens names after at n p (Some k) c x h e =
     subst Q (sym e) (takes p n k c x (sym h))
 
 pub full : (text : List ℕ) (tokens : List Token) (names : List (List ℕ)) (at n : ℕ) (p : Piece) (k : Option TokenKind) (f : LexFault) → Cuts text tokens names at → NextPiece (drop at text) p n
-    → k ≡ kind_of names p (slice text at n) → IsFull tokens k (place_at text at) f → HasCause text f
+    → k ≡ token_kind_of names p (slice text at n) → IsFull tokens k (place_at text at) f → HasLexCause text f
 full text tokens names at n p k (fault.Bad q) c x h i = absurd i
 full text tokens names at n p None (fault.Many q) c x h i = absurd i
 full text tokens names at n p (Some k) (fault.Many q) c x h i =
@@ -141,16 +141,16 @@ same_kind j k h = cc
 same_id : (i j : ℕ) → kind.Name i ≡ kind.Name j → i ≡ j
 same_id i j h = cc
 
-number_spelt : (names : List (List ℕ)) (p : Piece) (bytes : List ℕ) (k : TokenKind) (i : ℕ) → kind_of names p bytes ≡ some_kind k → k ≡ kind.Name i → slice_get (names_after names p bytes) i ≡ Some bytes
+number_spelt : (names : List (List ℕ)) (p : Piece) (bytes : List ℕ) (k : TokenKind) (i : ℕ) → token_kind_of names p bytes ≡ some_kind k → k ≡ kind.Name i → slice_get (names_after names p bytes) i ≡ Some bytes
 number_spelt names blank bytes k i h e = absurd (cc)
 number_spelt names name bytes k i h e =
-    let f : number_of names bytes ≡ i = same_id (number_of names bytes) i (same_kind (kind.Name (number_of names bytes)) k h ∙ e) in
-    ap (slice_get (with_name names bytes)) (sym f) ∙ spelt_there names bytes
+    let f : name_number names bytes ≡ i = same_id (name_number names bytes) i (same_kind (kind.Name (name_number names bytes)) k h ∙ e) in
+    ap (slice_get (with_spelt_name names bytes)) (sym f) ∙ spelt_there names bytes
 number_spelt names (number z) bytes k i h e = absurd (let f = same_kind (kind.Number z) k h ∙ e in cc)
 number_spelt names (word w) bytes k i h e = absurd (let f = same_kind (kind.Word w) k h ∙ e in cc)
 number_spelt names (mark m) bytes k i h e = absurd (let f = same_kind (kind.Mark m) k h ∙ e in cc)
 
-token_spelt : (text : List ℕ) (names : List (List ℕ)) (p : Piece) (at n : ℕ) (k : TokenKind) → kind_of names p (slice text at n) ≡ some_kind k → IsSpelt text (names_after names p (slice text at n)) (token_at text at n k)
+token_spelt : (text : List ℕ) (names : List (List ℕ)) (p : Piece) (at n : ℕ) (k : TokenKind) → token_kind_of names p (slice text at n) ≡ some_kind k → IsSpelt text (names_after names p (slice text at n)) (token_at text at n k)
 token_spelt text names p at n k h i e =
     let f : n ≡ at + n - at = omega arith in
     number_spelt names p (slice text at n) k i h e ∙ ap (λ z. Some (slice text at z)) f
@@ -200,14 +200,14 @@ name_at names i x y a b = let e = sym a ∙ b in cc
 pub numbers_spellings : (text : List ℕ) (tokens : List Token) (names : List (List ℕ)) → Named text tokens names → NumbersSpellings text tokens
 numbers_spellings text tokens names n a b i j s t sa tb si tj = (there, back)
   where
-    first : slice_get names i ≡ Some (bytes_of text s)
+    first : slice_get names i ≡ Some (token_bytes text s)
     first = all_at (IsSpelt text names) tokens a s n.spelt sa i si
 
-    second : slice_get names j ≡ Some (bytes_of text t)
+    second : slice_get names j ≡ Some (token_bytes text t)
     second = all_at (IsSpelt text names) tokens b t n.spelt tb j tj
 
-    there : i ≡ j → bytes_of text s ≡ bytes_of text t
-    there e = name_at names j (bytes_of text s) (bytes_of text t) (ap (slice_get names) (sym e) ∙ first) second
+    there : i ≡ j → token_bytes text s ≡ token_bytes text t
+    there e = name_at names j (token_bytes text s) (token_bytes text t) (ap (slice_get names) (sym e) ∙ first) second
 
-    back : bytes_of text s ≡ bytes_of text t → i ≡ j
-    back e = n.distinct i j (bytes_of text t) (first ∙ ap (λ z. Some z) e) second
+    back : token_bytes text s ≡ token_bytes text t → i ≡ j
+    back e = n.distinct i j (token_bytes text t) (first ∙ ap (λ z. Some z) e) second

@@ -8,10 +8,10 @@ use Rattle.forec_lexer.specs.declared.fault.LexFault.{LexFault}
 use Rattle.forec_lexer.specs.declared.fault.LexFault.TheVariants.{Bad, Many, OutOfMemory}
 
 -- Why a text is refused. Want of memory has no cause in the text.
-abbrev pub HasCause : List ℕ → LexFault → Type 0
-HasCause text (Bad place) = IsBad text place
-HasCause text (Many place) = IsMany text place
-HasCause text OutOfMemory = Unit {0}
+abbrev pub HasLexCause : List ℕ → LexFault → Type 0
+HasLexCause text (Bad place) = IsBad text place
+HasLexCause text (Many place) = IsMany text place
+HasLexCause text OutOfMemory = Unit {0}
 
 -- the tokens with the one of a piece, if it gives one
 abbrev pub kept : List Token → Option TokenKind → ℕ → ℕ → Place → List Token

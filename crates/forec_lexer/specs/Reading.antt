@@ -9,7 +9,7 @@ use Rattle.forec_tree.specs.declared.token.Word.TheVariants as reserved
 use Rattle.forec_tree.specs.declared.token.Mark.{Mark}
 use Rattle.forec_tree.specs.declared.token.Mark.TheVariants as sign
 use Rattle.forec_tree.specs.Lexis as lexis
-use Rattle.forec_tree.specs.Lexis.{letters_of, spelling, is_space, is_letter, is_digit, goes_on, is_line_end, digit_of, is_digit_in}
+use Rattle.forec_tree.specs.Lexis.{letters_of, spelling, is_space, is_letter, is_digit, continues_name, is_line_end, digit_of, is_digit_in}
 use Rattle.forec_lexer.specs.declared.pieces.Piece.{Piece}
 use Rattle.forec_lexer.specs.declared.pieces.Piece.TheVariants as piece
 
@@ -67,9 +67,9 @@ abbrev pub after_zero : List ℕ → Option ℕ
 after_zero [] = value_from 8 0 []
 after_zero (x ∷ ds) = if x == 120 || x == 88 then hexadecimal ds else value_from 8 0 (x ∷ ds)
 
-abbrev pub number_of : List ℕ → Option ℕ
-number_of [] = None
-number_of (d ∷ ds) = if d == 48 then after_zero ds else value_from 10 0 (d ∷ ds)
+abbrev pub lexed_number : List ℕ → Option ℕ
+lexed_number [] = None
+lexed_number (d ∷ ds) = if d == 48 then after_zero ds else value_from 10 0 (d ∷ ds)
 
 -- ---- comments
 
@@ -84,7 +84,7 @@ is_in_line b = not (is_line_end b)
 -- ---- the front of a text
 
 abbrev pub run : List ℕ → List ℕ
-run text = take_while goes_on text
+run text = take_while continues_name text
 
 abbrev pub word_or_name : Option Word → Piece
 word_or_name None = piece.Name
@@ -94,7 +94,7 @@ abbrev pub letters_ahead : List ℕ → Piece × ℕ
 letters_ahead text = (word_or_name (word_in words (run text)), length (run text))
 
 abbrev pub number_ahead : List ℕ → Option (Piece × ℕ)
-number_ahead text = option_map (λ value. (piece.Number (cast_signed w32 value), length (run text))) (number_of (run text))
+number_ahead text = option_map (λ value. (piece.Number (cast_signed w32 value), length (run text))) (lexed_number (run text))
 
 abbrev pub sign_ahead : List ℕ → Option (Piece × ℕ)
 sign_ahead text =
@@ -102,9 +102,9 @@ sign_ahead text =
     else (if starts_with nat_eq text (codes "/*") then option_map (λ n. (piece.Blank, 2 + n)) (close_from 0 (drop 2 text))
     else option_map (λ r. (piece.Mark r.0, r.1)) (mark_ahead marks text))
 
-unfoldable pub front : List ℕ → Option (Piece × ℕ)
-front [] = None
-front (b ∷ bs) =
+unfoldable pub piece_ahead : List ℕ → Option (Piece × ℕ)
+piece_ahead [] = None
+piece_ahead (b ∷ bs) =
     if is_space b then Some (piece.Blank, 1)
     else (if is_letter b then Some (letters_ahead (b ∷ bs))
     else (if is_digit b then number_ahead (b ∷ bs)

@@ -24,14 +24,14 @@ pub fn is_digit(byte: u8) -> bool
 
 /// A letter, `_` or a digit.
 pub fn goes_on(byte: u8) -> bool
-    ensures { result ≡ lexis.goes_on byte }
+    ensures { result ≡ lexis.continues_name byte }
 {
     is_letter(byte) || is_digit(byte)
 }
 
 /// How many letters, `_` and digits stand at the front.
 pub fn run_len(text: &[u8]) -> usize
-    ensures value { result ≡ length (take_while lexis.goes_on text.now) }
+    ensures value { result ≡ length (take_while lexis.continues_name text.now) }
     ensures within { result ≤ length text.now }
 {
     text.iter().take_while(|byte| goes_on(**byte)).count()

@@ -14,7 +14,7 @@ pub struct Names<'a> {
 impl<'a> Names<'a> {
     ghost use Rattle.std.specs.Prelude.{◌≡◌, ◌<◌, ◌^◌, ◌-◌, [], length, IfOk, OnOk};
     ghost use Rattle.std.specs.Str.{IsAscii};
-    ghost use Rattle.forec_tree.specs.LexedText.{number_of, with_name};
+    ghost use Rattle.forec_tree.specs.LexedText.{name_number, with_spelt_name};
     ghost use Rattle.forec_lexer.specs.Shown.{IsSame};
 
     pub fn new(alloc: Global) -> Result<Self, OutOfMemory>
@@ -32,9 +32,9 @@ impl<'a> Names<'a> {
         requires ascii { IsAscii name.now }
         requires same { IsSame self.old }
         requires few { length self.old.labels < 2 ^ 32 - 1 }
-        ensures number { IfOk result (λ id. id ≡ number_of self.old.labels name.entry.now) }
+        ensures number { IfOk result (λ id. id ≡ name_number self.old.labels name.entry.now) }
         ensures after { OnOk result
-            (self.new.labels ≡ with_name self.old.labels name.entry.now) }
+            (self.new.labels ≡ with_spelt_name self.old.labels name.entry.now) }
         ensures same { OnOk result (IsSame self.new) }
     {
         let Ok(name) = str::from_utf8(name) else {

@@ -59,7 +59,7 @@ fn after_zero(digits: &[u8]) -> Option<u32>
 
 /// The value of a run that begins with a digit, if it is a number of at most 32 bits.
 pub fn number_of(run: &[u8]) -> Option<u32>
-    ensures { result ≡ reading.number_of run.now }
+    ensures { result ≡ reading.lexed_number run.now }
 {
     let (first, digits) = run.split_first()?;
     if *first == b'0' {

@@ -56,9 +56,9 @@ fn sign_ahead(text: &[u8]) -> Option<(Piece, usize)>
     Some((Piece::Mark { mark }, len))
 }
 
-#[tactic(auto, unfolding(crate::specs::Reading::front))]
+#[tactic(auto, unfolding(crate::specs::Reading::piece_ahead))]
 fn front(text: &[u8]) -> Option<(Piece, usize)>
-    ensures { result ≡ reading.front text.now }
+    ensures { result ≡ reading.piece_ahead text.now }
 {
     let byte = *text.first()?;
     if is_space(byte) {

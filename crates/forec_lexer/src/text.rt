@@ -6,7 +6,7 @@ ghost use Rattle.forec_tree.specs.declared.token.Token.{Token};
 ghost use Rattle.forec_tree.specs.LexedText as lexed;
 ghost use Rattle.forec_tree.specs.LexedText.{place_after, first_place, IsLexed, IsBad, IsMany, AreDistinct, IsSpelt, IsNumbered, NumbersSpellings, AreInOrder};
 ghost use Rattle.forec_lexer.specs.Reading.{shown, IsText};
-ghost use Rattle.forec_lexer.specs.Answers.{kept, IsFull, HasCause};
+ghost use Rattle.forec_lexer.specs.Answers.{kept, IsFull, HasLexCause};
 ghost use Rattle.forec_lexer.specs.Shown.{IsSame};
 
 use crate::fault::LexFault;
@@ -60,7 +60,7 @@ fn kind_of<'a>(
     requires same { IsSame names.old }
     requires few { length names.old.labels < 4294967295 }
     ensures kind { IfOk result
-        (λ kind. kind ≡ lexed.kind_of names.old.labels (shown piece) bytes.entry.now) }
+        (λ kind. kind ≡ lexed.token_kind_of names.old.labels (shown piece) bytes.entry.now) }
     ensures after { OnOk result
         (names.new.labels ≡ lexed.names_after names.old.labels (shown piece) bytes.entry.now) }
     ensures same { OnOk result (IsSame names.new) }
@@ -113,7 +113,7 @@ fn keep(
 fn lexed_text(alloc: Global, text: &[u8]) -> Result<Lexed, LexFault>
     requires { length text.now ≤ 1048576 }
     ensures ok { IfOk result (λ l. IsLexed text.now l.tokens.items l.names) }
-    ensures err { IfErr result (HasCause text.now) }
+    ensures err { IfErr result (HasLexCause text.now) }
 {
     let mut tokens = Vec::new(alloc);
     let mut names = Names::new(alloc)?;
@@ -143,7 +143,7 @@ fn lexed_text(alloc: Global, text: &[u8]) -> Result<Lexed, LexFault>
 pub fn lex(alloc: Global, text: &[u8]) -> Result<Lexed, LexFault>
     requires { length text.now ≤ 1048576 }
     ensures ok { IfOk result (λ l. IsLexed text.now l.tokens.items l.names) }
-    ensures err { IfErr result (HasCause text.now) }
+    ensures err { IfErr result (HasLexCause text.now) }
 
     // Each answer but out of memory comes wherever its cause is.
     ensures lexed { (tokens : List Token) (names : List (List ℕ)) → IsLexed text.now tokens names

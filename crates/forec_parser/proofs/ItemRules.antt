@@ -19,17 +19,17 @@ use Rattle.forec_tree.specs.Terms.{PlainGlobal, PlainItem, IsGlobal}
 use Rattle.forec_tree.specs.Parts.{number_at, global_of}
 use Rattle.forec_tree.specs.Spelling.{Spelt, at, IsMark, IsWord}
 use Rattle.forec_tree.specs.SpelledStatements.{Separated, last_part, next_part}
-use Rattle.forec_tree.specs.SpelledPrograms.{Signed, positive, negative, Named, named, Scalar, unset, set, Table, constant, table, policy_word, Combines, combines, Param, param, Params, no_params, void_params, params, Parameters, parameters}
+use Rattle.forec_tree.specs.SpelledPrograms.{Signed, positive, negative, Named, named, Scalar, unset, set, Table, constant, table, policy_word, SpellsCombine, combines, Param, param, Params, no_params, void_params, params, Parameters, parameters}
 use Rattle.expr_parser.specs.declared.fixed.Fixed.TheVariants as fixed
 use Rattle.forec_parser.specs.declared.meaning.Declarator.{Declarator}
 use Rattle.forec_parser.specs.declared.meaning.Declarator.TheVariants as decl
 use Rattle.expr_parser.specs.Input.{Input, Parser, kind_ahead, take}
 use Rattle.expr_parser.specs.Meaning.{is_fixed}
-use Rattle.forec_parser.specs.Meaning.{policy_of}
+use Rattle.forec_parser.specs.Meaning.{token_policy}
 use Rattle.expr_parser.specs.Reading.{separated}
 use Rattle.forec_parser.specs.Statements as st
 use Rattle.forec_parser.specs.Items as it
-use Rattle.forec_parser.specs.Items.{combine_of}
+use Rattle.forec_parser.specs.Items.{combine_with}
 use Rattle.expr_parser.proofs.Spans.{first, step, ok_pair, took, head_kind, take_ok}
 use Rattle.expr_parser.proofs.Closers.{fixed-kind}
 use Rattle.expr_parser.proofs.Exact.{Lang, Read, Exact, Bind, both, Map, mapped, Done, done, If, on, off, Part, part, Reading, reading, Any, comes, bind, map_to, convert, either, done_at, by_reading, read_as, reads_by}
@@ -56,13 +56,13 @@ abbrev HasPolicy : Option TokenKind → Option Policy → Type 0
 HasPolicy k None = Unit {0}
 HasPolicy k (Some p) = k ≡ Some (kind.Word (policy_word p))
 
-has_policy : (k : Option TokenKind) → HasPolicy k (policy_of k)
+has_policy : (k : Option TokenKind) → HasPolicy k (token_policy k)
 has_policy (Some (kind.Word word.All)) = refl
 has_policy (Some (kind.Word word.New)) = refl
 has_policy (Some (kind.Word word.Mod)) = refl
 has_policy _ = tt
 
-policy_is_so : (p : Policy) → policy_of (Some (kind.Word (policy_word p))) ≡ Some p
+policy_is_so : (p : Policy) → token_policy (Some (kind.Word (policy_word p))) ≡ Some p
 policy_is_so policy.All = refl
 policy_is_so policy.New = refl
 policy_is_so policy.Mod = refl
@@ -120,7 +120,7 @@ module _ (limit : ℕ) where
   signed_number_of v w x ls k (off e (part (number_is value m) c)) = part (positive value m) tt
 
   a_signed : Exact limit it.signed (Part Any Signed) SignedBy
-  unfolding it.signed it.negative
+  unfolding it.signed it.negative_number
   a_signed = convert signed_number_of (λ v w x ls k q. q) (either fixed.Minus (bind (token limit fixed.Minus) (λ t. map_to (negated t) (a_number limit))) (a_number limit))
 
   pub signed_by : Exact limit it.signed (Part Any Signed) (Reading limit it.signed)
@@ -183,26 +183,26 @@ module _ (limit : ℕ) where
 
   pub a_policy : Exact limit it.policy (Part Any PolicyIs) (Reading limit it.policy)
   unfolding it.policy
-  a_policy = by_reading (λ i j p small h. policy_read i j p small (policy_of (kind_ahead i.rest)) (has_policy (kind_ahead i.rest)) h)
+  a_policy = by_reading (λ i j p small h. policy_read i j p small (token_policy (kind_ahead i.rest)) (has_policy (kind_ahead i.rest)) h)
 
   policy_reads : {v : ℕ} {p : Policy} {ls : List Spelt} {k : Option TokenKind} → PolicyIs p v ls → Reading limit it.policy v p v ls k
   unfolding it.policy
-  policy_reads (policy_is {v} {t} p h) = reading (λ rest e. let f : policy_of (Some t.kind) ≡ Some p = rw h (policy_is_so p) in rw (f, take_ok) comes)
+  policy_reads (policy_is {v} {t} p h) = reading (λ rest e. let f : token_policy (Some t.kind) ≡ Some p = rw h (policy_is_so p) in rw (f, take_ok) comes)
 
   abbrev CombinesBy : Lang Policy → Lang Combine
-  CombinesBy P = Bind (Tok fixed.Combine) (λ _. Bind P (λ p. Bind (Tok fixed.With) (λ _. Map (combine_of p) (Part Any NameIs))))
+  CombinesBy P = Bind (Tok fixed.Combine) (λ _. Bind P (λ p. Bind (Tok fixed.With) (λ _. Map (combine_with p) (Part Any NameIs))))
 
-  pub combines_of : (v w : ℕ) (x : Combine) (ls : List Spelt) (k : Option TokenKind) → CombinesBy (Part Any PolicyIs) v x w ls k → Part Any Combines v x w ls k
+  pub combines_of : (v w : ℕ) (x : Combine) (ls : List Spelt) (k : Option TokenKind) → CombinesBy (Part Any PolicyIs) v x w ls k → Part Any SpellsCombine v x w ls k
   combines_of v w x ls k (both (tok h) (both (part (policy_is p m) c) (both (tok n) (mapped (part (name_is id o) d))))) = part (combines p id h m n o) tt
 
-  a_combines : Exact limit it.combines (Part Any Combines) (CombinesBy (Reading limit it.policy))
+  a_combines : Exact limit it.combines (Part Any SpellsCombine) (CombinesBy (Reading limit it.policy))
   unfolding it.combines
-  a_combines = convert combines_of (λ v w x ls k q. q) (bind (token limit fixed.Combine) (λ _. bind a_policy (λ p. bind (token limit fixed.With) (λ _. map_to (combine_of p) (a_name limit)))))
+  a_combines = convert combines_of (λ v w x ls k q. q) (bind (token limit fixed.Combine) (λ _. bind a_policy (λ p. bind (token limit fixed.With) (λ _. map_to (combine_with p) (a_name limit)))))
 
-  pub combines_by : Exact limit it.combines (Part Any Combines) (Reading limit it.combines)
+  pub combines_by : Exact limit it.combines (Part Any SpellsCombine) (Reading limit it.combines)
   combines_by = by_reading a_combines.sound
 
-  pub combines_reads : {v : ℕ} {x : Combine} {ls : List Spelt} {k : Option TokenKind} → Combines x v ls → Reading limit it.combines v x v ls k
+  pub combines_reads : {v : ℕ} {x : Combine} {ls : List Spelt} {k : Option TokenKind} → SpellsCombine x v ls → Reading limit it.combines v x v ls k
   combines_reads (combines p id h m n o) = reads_by a_combines (both (tok h) (both (policy_reads (policy_is p m)) (both (tok n) (mapped (part (name_is id o) tt)))))
 
   -- ---- parameters
@@ -375,14 +375,14 @@ module _ (limit : ℕ) where
   a_bare : Exact limit (it.declared_by limit decl.Bare) (Part Any (IsItem (Named glob.Input))) (Map input_of (Part Any NameIs))
   a_bare = convert bare_of (λ v w x ls k q. q) (map_to input_of (a_name limit))
 
-  pub declared_by : (d : Declarator) → Exact limit (it.declared limit d) (Part Any (IsItem (DeclaredAs d))) (Reading limit (it.declared limit d))
-  unfolding it.declared
+  pub declared_by : (d : Declarator) → Exact limit (it.declared_item limit d) (Part Any (IsItem (DeclaredAs d))) (Reading limit (it.declared_item limit d))
+  unfolding it.declared_item
   declared_by decl.Table = by_reading a_table.sound
   declared_by decl.Bare = by_reading a_bare.sound
   declared_by (decl.Valued k) = by_reading (a_valued k).sound
 
-  pub declared_reads : (d : Declarator) (g : PlainGlobal) (v : ℕ) (ls : List Spelt) (k : Option TokenKind) → DeclaredAs d g v ls → ends k ≡ true → Reading limit (it.declared limit d) v (IsGlobal g) v ls k
-  unfolding it.declared
+  pub declared_reads : (d : Declarator) (g : PlainGlobal) (v : ℕ) (ls : List Spelt) (k : Option TokenKind) → DeclaredAs d g v ls → ends k ≡ true → Reading limit (it.declared_item limit d) v (IsGlobal g) v ls k
+  unfolding it.declared_item
   declared_reads decl.Table g v ls k s e = table_reads s
   declared_reads decl.Bare g v ls k (named id h) e = reads_by a_bare (mapped (part (name_is id h) tt))
   declared_reads (decl.Valued q) g v ls k (unset id h) e = reads_by (a_valued q) (both (part (name_is id h) tt) (mapped (maybe_value_reads no_value (ends_assign k e))))
@@ -395,5 +395,5 @@ module _ (limit : ℕ) where
   declared_filled (decl.Valued q) g v ls (unset id h) = tt
   declared_filled (decl.Valued q) g v ls (set id h m s) = tt
 
-  pub declared_list : (d : Declarator) → Exact limit (separated (it.declared limit d)) (Listed (Part Any (IsItem (DeclaredAs d)))) (Listed (Full (Reading limit (it.declared limit d))))
+  pub declared_list : (d : Declarator) → Exact limit (separated (it.declared_item limit d)) (Listed (Part Any (IsItem (DeclaredAs d)))) (Listed (Full (Reading limit (it.declared_item limit d))))
   declared_list d = full_commas (declared_by d)

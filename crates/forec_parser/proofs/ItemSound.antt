@@ -13,9 +13,9 @@ use Rattle.forec_tree.specs.declared.tree.GlobalKind.{GlobalKind}
 use Rattle.forec_tree.specs.declared.tree.GlobalKind.TheVariants as glob
 use Rattle.forec_tree.specs.Terms.{Statement, PlainGlobal, PlainItem, IsGlobal, IsFunction}
 use Rattle.forec_tree.specs.Parts.{in_order, global_of}
-use Rattle.forec_tree.specs.Spelling.{Spelt, at, tokens, IsMark, IsWord, IsName, name_at}
+use Rattle.forec_tree.specs.Spelling.{Spelt, at, tokens, IsMark, IsWord, IsNameToken, name_at}
 use Rattle.forec_tree.specs.SpelledStatements.{Separated, last_part, next_part, Lengths, lengths, Block, block}
-use Rattle.forec_tree.specs.SpelledPrograms.{positive, negative, Scalar, unset, set, SharedVariable, one, array, valued_array, Table, Combines, combines, Parameters, parameters, gives_word, Introduces, constants, inputs, outputs, globals, shared_globals, function}
+use Rattle.forec_tree.specs.SpelledPrograms.{positive, negative, Scalar, unset, set, SharedVariable, one, array, valued_array, Table, SpellsCombine, combines, Parameters, parameters, gives_word, Introduces, constants, inputs, outputs, globals, shared_globals, function}
 use Rattle.forec_tree.specs.SpelledPrograms as sp
 use Rattle.expr_parser.specs.declared.fixed.Fixed.{Fixed}
 use Rattle.expr_parser.specs.declared.fixed.Fixed.TheVariants as fixed
@@ -27,7 +27,7 @@ use Rattle.expr_parser.specs.Input.{Input, kind_ahead}
 use Rattle.expr_parser.specs.Meaning.{is_fixed}
 use Rattle.forec_parser.specs.Meaning.{opening_of}
 use Rattle.forec_parser.specs.Statements as st
-use Rattle.forec_parser.specs.Statements.{stmt}
+use Rattle.forec_parser.specs.Statements.{read_statement}
 use Rattle.forec_parser.specs.Items as it
 use Rattle.expr_parser.proofs.Spans.{first, first-is}
 use Rattle.expr_parser.proofs.Exact.{Lang, Read, Exact, Bind, both, Map, mapped, Done, done, If, on, off, Part, part, Reading, reading, Any, bind, map_to, convert, either, done_at, by_reading, read_as, reads_by, read_at}
@@ -51,7 +51,7 @@ pub data Ints (d : Declarator) : List PlainItem → ℕ → List Spelt → Type 
 
 -- a shared variable from `int` on
 pub data SharedRest (kind : GlobalKind) : List PlainItem → ℕ → List Spelt → Type 0 where
-  shared_rest : {v : ℕ} {int : Token} (semicolon : Token) {g : PlainGlobal} {combine : Combine} {ms rs : List Spelt} → IsWord word.Int int → SharedVariable kind (Some combine) g v ms → Combines combine v rs
+  shared_rest : {v : ℕ} {int : Token} (semicolon : Token) {g : PlainGlobal} {combine : Combine} {ms rs : List Spelt} → IsWord word.Int int → SharedVariable kind (Some combine) g v ms → SpellsCombine combine v rs
       → IsMark mark.Semicolon semicolon → SharedRest kind (IsGlobal g ∷ []) v (at int v ∷ (ms ++ (rs ++ (at semicolon v ∷ []))))
 
 abbrev pub function_of : Bool → Name → List Name → List Statement → PlainItem
@@ -84,7 +84,7 @@ module _ (limit : ℕ) where
   pub ints_of : (d : Declarator) (v w : ℕ) (x : List PlainItem) (ls : List Spelt) (k : Option TokenKind) → IntsBy (Listed (Part Any (IsItem (DeclaredAs d)))) v x w ls k → Part Any (Ints d) v x w ls k
   ints_of d v w x ls k (both (tok h) (both q (mapped (tok m)))) = with_ints _ k h (wrap_in q) m
 
-  an_ints : (d : Declarator) → Exact limit (it.ints limit d) (Part Any (Ints d)) (IntsBy (Listed (Full (Reading limit (it.declared limit d)))))
+  an_ints : (d : Declarator) → Exact limit (it.ints limit d) (Part Any (Ints d)) (IntsBy (Listed (Full (Reading limit (it.declared_item limit d)))))
   unfolding it.ints it.globals
   an_ints d = convert (ints_of d) (λ v w x ls k q. q) (bind (token limit fixed.Int) (λ _. bind (declared_list limit d) (λ found. map_to (λ (_ : Token). found) (token limit fixed.Semicolon))))
 
@@ -105,7 +105,7 @@ module _ (limit : ℕ) where
       Map (λ (_ : Token). shared_of kind n length found c) (Tok fixed.Semicolon))))))
 
   pub shared_rest_of : (q : GlobalKind) → (v w : ℕ) (x : List PlainItem) (ls : List Spelt) (k : Option TokenKind)
-      → SharedBy q (Part Any (MaybeLength limit)) (λ length. Part Any (MaybeValues limit length)) (Part Any Combines) v x w ls k → Part Any (SharedRest q) v x w ls k
+      → SharedBy q (Part Any (MaybeLength limit)) (λ length. Part Any (MaybeValues limit length)) (Part Any SpellsCombine) v x w ls k → Part Any (SharedRest q) v x w ls k
   shared_rest_of q v w x ls k (both (tok h) (both (part (name_is id m) c) (both (part no_length a) (both (part no_numbers d) (both (part s e) (mapped (tok n))))))) =
       part (shared_rest _ h (one (unset id m)) s n) tt
   shared_rest_of q v w x ls k (both (tok h) (both (part (name_is id m) c) (both (part no_length a) (both (part (some_numbers (one_number (one_is o r))) d) (both (part s e) (mapped (tok n))))))) =
@@ -126,7 +126,7 @@ module _ (limit : ℕ) where
   pub shared_by : (q : GlobalKind) → Exact limit (it.shared limit q) (Part Any (SharedRest q)) (Reading limit (it.shared limit q))
   shared_by q = by_reading (a_shared q).sound
 
-  combine_first : {c : Combine} {v : ℕ} {ls : List Spelt} → Combines c v ls → (rs : List Spelt) (k : Option TokenKind) → first (ls ++ rs) k ≡ Some (kind.Word word.Combine)
+  combine_first : {c : Combine} {v : ℕ} {ls : List Spelt} → SpellsCombine c v ls → (rs : List Spelt) (k : Option TokenKind) → first (ls ++ rs) k ≡ Some (kind.Word word.Combine)
   combine_first (combines p id h m n o) rs k = rw h
 
   shared_reads : {q : GlobalKind} {v : ℕ} {xs : List PlainItem} {ls : List Spelt} {k : Option TokenKind} → SharedRest q xs v ls → Reading limit (it.shared limit q) v xs v ls k
@@ -150,13 +150,13 @@ module _ (limit : ℕ) where
   FunctionBy gives n P B = Bind P (λ ps. Map (λ b. function_of gives n ps b.1 ∷ []) B)
 
   pub function_rest_of : (gives : Bool) (n : Name) → (v w : ℕ) (x : List PlainItem) (ls : List Spelt) (k : Option TokenKind)
-      → FunctionBy gives n (Part Any Parameters) (Braces limit (stmt limit (suc limit)) (sound_stmt limit (suc limit)) (λ v. v) Bodied) v x w ls k → Part Any (FunctionRest gives n) v x w ls k
+      → FunctionBy gives n (Part Any Parameters) (Braces limit (read_statement limit (suc limit)) (sound_stmt limit (suc limit)) (λ v. v) Bodied) v x w ls k → Part Any (FunctionRest gives n) v x w ls k
   function_rest_of gives n v w x ls k (both (part s c) (mapped (between right hl (bodied b) hr))) = part (function_rest s (block right hl b hr)) tt
 
-  a_function : (gives : Bool) (n : Name) → Exact limit (it.function limit gives n) (Part Any (FunctionRest gives n)) (FunctionBy gives n (Reading limit (it.parameters limit)) (Reading limit (st.block limit (stmt limit (suc limit)))))
+  a_function : (gives : Bool) (n : Name) → Exact limit (it.function limit gives n) (Part Any (FunctionRest gives n)) (FunctionBy gives n (Reading limit (it.parameters limit)) (Reading limit (st.block limit (read_statement limit (suc limit)))))
   unfolding it.function
   a_function gives n = convert (function_rest_of gives n) (λ v w x ls k q. q)
-      (bind (parameters_by limit) (λ ps. map_to (λ b. function_of gives n ps b.1 ∷ []) (block_here limit (stmt limit (suc limit)) (sound_stmt limit (suc limit)))))
+      (bind (parameters_by limit) (λ ps. map_to (λ b. function_of gives n ps b.1 ∷ []) (block_here limit (read_statement limit (suc limit)) (sound_stmt limit (suc limit)))))
 
   pub function_by : (gives : Bool) (n : Name) → Exact limit (it.function limit gives n) (Part Any (FunctionRest gives n)) (Reading limit (it.function limit gives n))
   function_by gives n = by_reading (a_function gives n).sound
@@ -175,7 +175,7 @@ module _ (limit : ℕ) where
   more_of v w x ls k (on e (both (tok h) q)) = with_some k h (wrap_in q)
   more_of v w x ls k (off e done) = part no_globals tt
 
-  a_more : Exact limit (it.more_globals limit) (Part Any MoreGlobals) (If fixed.Comma (Bind (Tok fixed.Comma) (λ _. Listed (Full (Reading limit (it.declared limit (decl.Valued glob.Plain)))))) (Done []))
+  a_more : Exact limit (it.more_globals limit) (Part Any MoreGlobals) (If fixed.Comma (Bind (Tok fixed.Comma) (λ _. Listed (Full (Reading limit (it.declared_item limit (decl.Valued glob.Plain)))))) (Done []))
   unfolding it.more_globals
   a_more = convert more_of (λ v w x ls k q. q) (either fixed.Comma (bind (token limit fixed.Comma) (λ _. declared_list limit (decl.Valued glob.Plain))) (done_at []))
 
@@ -234,9 +234,9 @@ module _ (limit : ℕ) where
   abbrev pub NumberBy : (Bool → Name → Lang (List PlainItem)) → (Name → Lang (List PlainItem)) → Lang (List PlainItem)
   NumberBy F P = Bind (Tok fixed.Int) (λ _. Bind (Part Any NameIs) (λ n. If fixed.LeftRound (F true n) (P n)))
 
-  a_number : Exact limit (it.numbers limit) (NumberBy (λ gives n. Part Any (FunctionRest gives n)) (λ n. Part Any (PlainRest n)))
+  a_number : Exact limit (it.int_item limit) (NumberBy (λ gives n. Part Any (FunctionRest gives n)) (λ n. Part Any (PlainRest n)))
       (NumberBy (λ gives n. Reading limit (it.function limit gives n)) (λ n. Reading limit (it.plain_globals limit n)))
-  unfolding it.numbers
+  unfolding it.int_item
   a_number = bind (token limit fixed.Int) (λ _. bind (a_name limit) (λ n. either fixed.LeftRound (function_by true n) (plain_by n)))
 
   abbrev IntsBehind : Fixed → Lang (List PlainItem) → Lang (List PlainItem)
@@ -297,23 +297,23 @@ module _ (limit : ℕ) where
       let c : opening_of (kind_ahead (tokens ls ++ rest)) ≡ o = ap opening_of (first-is ls rest ∙ ap (first ls) e) ∙ h in
       rw c (read_at r rest e))
 
-  by_plain : {v id : ℕ} {int t : Token} {xs : List PlainItem} {ls : List Spelt} {k : Option TokenKind} → IsWord word.Int int → IsName id t → is_fixed fixed.LeftRound (first ls k) ≡ false
+  by_plain : {v id : ℕ} {int t : Token} {xs : List PlainItem} {ls : List Spelt} {k : Option TokenKind} → IsWord word.Int int → IsNameToken id t → is_fixed fixed.LeftRound (first ls k) ≡ false
       → PlainRest (name_at id t.place) xs v ls → Reading limit (it.item limit) v xs v (at int v ∷ at t v ∷ ls) k
   by_plain {id = id} h m n r = begins_so opening.Int (rw h) (reads_by a_number (both (tok h) (both (part (name_is id m) tt) (off n (plain_reads r)))))
 
   parameters_first : {xs : List Name} {v : ℕ} {ls : List Spelt} → Parameters xs v ls → (rs : List Spelt) (k : Option TokenKind) → first (ls ++ rs) k ≡ Some (kind.Mark mark.LeftRound)
   parameters_first (parameters right hl s hr) rs k = rw hl
 
-  by_int : {v : ℕ} {int t : Token} {place : Place} {names : List Name} {body : List Statement} {ls ms : List Spelt} {k : Option TokenKind} (id : ℕ) → IsWord word.Int int → IsName id t → Parameters names v ls → Block place body v v ms
+  by_int : {v : ℕ} {int t : Token} {place : Place} {names : List Name} {body : List Statement} {ls ms : List Spelt} {k : Option TokenKind} (id : ℕ) → IsWord word.Int int → IsNameToken id t → Parameters names v ls → Block place body v v ms
       → Reading limit (it.item limit) v (function_of true (name_at id t.place) names body ∷ []) v (at int v ∷ at t v ∷ (ls ++ ms)) k
   by_int {k = k} id h m s b =
       begins_so opening.Int (rw h) (reads_by a_number (both (tok h) (both (part (name_is id m) tt) (on (ap (is_fixed fixed.LeftRound) (parameters_first s _ k)) (function_reads (function_rest s b))))))
 
-  by_void : {v : ℕ} {void t : Token} {place : Place} {names : List Name} {body : List Statement} {ls ms : List Spelt} {k : Option TokenKind} (id : ℕ) → IsWord word.Void void → IsName id t → Parameters names v ls → Block place body v v ms
+  by_void : {v : ℕ} {void t : Token} {place : Place} {names : List Name} {body : List Statement} {ls ms : List Spelt} {k : Option TokenKind} (id : ℕ) → IsWord word.Void void → IsNameToken id t → Parameters names v ls → Block place body v v ms
       → Reading limit (it.item limit) v (function_of false (name_at id t.place) names body ∷ []) v (at void v ∷ at t v ∷ (ls ++ ms)) k
   by_void id h m s b = begins_so opening.Void (rw h) (reads_by a_void (both (tok h) (both (part (name_is id m) tt) (function_reads (function_rest s b)))))
 
-  by_gives : (gives : Bool) {v : ℕ} {t name : Token} {place : Place} {names : List Name} {body : List Statement} {ls ms : List Spelt} {k : Option TokenKind} (id : ℕ) → IsWord (gives_word gives) t → IsName id name
+  by_gives : (gives : Bool) {v : ℕ} {t name : Token} {place : Place} {names : List Name} {body : List Statement} {ls ms : List Spelt} {k : Option TokenKind} (id : ℕ) → IsWord (gives_word gives) t → IsNameToken id name
       → Parameters names v ls → Block place body v v ms
       → Reading limit (it.item limit) v (function_of gives (name_at id name.place) names body ∷ []) v (at t v ∷ at name v ∷ (ls ++ ms)) k
   by_gives true id h m s b = by_int id h m s b

@@ -12,14 +12,14 @@ use Rattle.forec_parser.specs.declared.meaning.Declarator.{Declarator}
 use Rattle.forec_parser.specs.declared.meaning.Declarator.TheVariants as declarator
 use Rattle.expr_parser.specs.declared.fault.Fault.TheVariants.{Syntax, Deep, OutOfMemory}
 use Rattle.expr_parser.specs.Input.{Input, at_end}
-use Rattle.forec_parser.specs.Meaning.{opening_of, policy_of}
-use Rattle.forec_parser.specs.Statements.{stmt}
+use Rattle.forec_parser.specs.Meaning.{opening_of, token_policy}
+use Rattle.forec_parser.specs.Statements.{read_statement}
 use Rattle.forec_parser.specs.Items as items
 use Rattle.expr_parser.proofs.Steady.{Limits, deeper, Steady, Loops, bind, done, refused, by_kind, either, taken, closed, enclosing, named, numbered, looping, listing, refused_among, deep_among, takes_no_memory}
 use Rattle.forec_parser.proofs.StatementSteady.{maybe_length_steady, block_steady, stmt_steady}
 
 signed_steady : {E : Type 0} → Steady E 0 items.signed items.signed
-unfolding items.signed items.negative
+unfolding items.signed items.negative_number
 signed_steady = either fixed.Minus (bind (closed fixed.Minus) (λ t. bind numbered (λ n. done _))) numbered
 
 one_value_steady : {E : Type 0} → Steady E 1 items.one_value items.one_value
@@ -32,7 +32,7 @@ maybe_value_steady = either fixed.Assign one_value_steady (done [])
 
 policy_steady : {E : Type 0} → Steady E 1 items.policy items.policy
 unfolding items.policy
-policy_steady {E} = by_kind (λ c. items.policy_by (policy_of c)) (λ c. items.policy_by (policy_of c)) (λ c. by (policy_of c))
+policy_steady {E} = by_kind (λ c. items.policy_by (token_policy c)) (λ c. items.policy_by (token_policy c)) (λ c. by (token_policy c))
   where
     by : (o : Option Policy) → Steady E 1 (items.policy_by o) (items.policy_by o)
     by (Some p) = bind taken (λ _. done p)
@@ -57,8 +57,8 @@ module _ {E : Type 0} (k l : ℕ) (le : Limits E k l) where
   unfolding items.maybe_values
   maybe_values_steady o = either fixed.Assign (values_by_steady o) (done [])
 
-  declared_steady : (d : Declarator) → Steady E 1 (items.declared k d) (items.declared l d)
-  unfolding items.declared items.table
+  declared_steady : (d : Declarator) → Steady E 1 (items.declared_item k d) (items.declared_item l d)
+  unfolding items.declared_item items.table
   declared_steady declarator.Table = bind named (λ n. bind (maybe_length_steady k l le) (λ o. bind (values_by_steady o) (λ found. done _)))
   declared_steady declarator.Bare = bind named (λ n. done _)
   declared_steady (declarator.Valued g) = bind named (λ n. bind maybe_value_steady (λ found. done _))
@@ -75,7 +75,7 @@ module _ {E : Type 0} (k l : ℕ) (le : Limits E k l) where
   function_steady : (gives : Bool) (n : Name) → Steady E 1 (items.function k gives n) (items.function l gives n)
   unfolding items.function items.parameters
   function_steady gives n = bind (enclosing k l le fixed.LeftRound fixed.RightRound (λ _ ps. ps) params_steady) (λ ps.
-      bind (block_steady k l le (stmt k (suc k)) (stmt l (suc l)) (stmt_steady k l le (suc k) (suc l) (deeper le))) (λ b. done _))
+      bind (block_steady k l le (read_statement k (suc k)) (read_statement l (suc l)) (stmt_steady k l le (suc k) (suc l) (deeper le))) (λ b. done _))
 
   plain_globals_steady : (n : Name) → Steady E 0 (items.plain_globals k n) (items.plain_globals l n)
   unfolding items.plain_globals items.more_globals
@@ -84,7 +84,7 @@ module _ {E : Type 0} (k l : ℕ) (le : Limits E k l) where
       bind (closed fixed.Semicolon) (λ _. done _)))
 
   item_by_steady : (o : Opening) → Steady E 1 (items.item_by k o) (items.item_by l o)
-  unfolding items.outputs items.output_shared items.shared_globals items.shared_output items.numbers
+  unfolding items.outputs items.output_shared items.shared_globals items.shared_output items.int_item
   item_by_steady opening.Const = bind (closed fixed.Const) (λ _. ints_steady declarator.Table)
   item_by_steady opening.Input = bind (closed fixed.Input) (λ _. ints_steady declarator.Bare)
   item_by_steady opening.Output = bind (closed fixed.Output) (λ _.

@@ -8,9 +8,9 @@ use Rattle.forec_tree.specs.declared.tree.Name.{Name}
 use Rattle.forec_tree.specs.declared.tree.Number.{Number}
 use Rattle.forec_tree.specs.Terms as plain
 use Rattle.forec_tree.specs.Terms.{Term, Declared, Statement, Perhaps, absent, present}
-use Rattle.forec_tree.specs.Spelling.{Spelt, at, IsMark, Whole, Arguments}
+use Rattle.forec_tree.specs.Spelling.{Spelt, at, IsMark, Whole, SpellsExpressions}
 use Rattle.forec_tree.specs.Parts.{declared_as, Head, head_of}
-use Rattle.forec_tree.specs.SpelledStatements.{Simple, Lengths, lengths, Declares, bare, valued, array, valued_array, Bounds, unbounded, bounded, ForStarts, no_start, simple_start, declared_start, Tests, no_test, some_test, ForSteps, no_step, some_step, HeadParts, head_parts, Heads, heads}
+use Rattle.forec_tree.specs.SpelledStatements.{Simple, Lengths, lengths, Declares, bare, valued, array, valued_array, SpellsBound, unbounded, bounded, ForStarts, no_start, simple_start, declared_start, Tests, no_test, some_test, ForSteps, no_step, some_step, HeadParts, head_parts, Heads, heads}
 use Rattle.expr_parser.specs.declared.fixed.Fixed.{Fixed}
 use Rattle.expr_parser.specs.declared.fixed.Fixed.TheVariants as fixed
 use Rattle.expr_parser.specs.Meaning.{is_fixed}
@@ -29,14 +29,14 @@ module _ (limit : ℕ) where
   pub length_of : (v w : ℕ) (x : Number) (ls : List Spelt) (k : Option TokenKind) → Enclosed fixed.LeftSquare fixed.RightSquare (λ _ n. n) (Part Any NumberIs) v x w ls k → Part Any Lengths v x w ls k
   length_of v w x ls k (between right hl (part (number_is value h) c) hr) = part (lengths value hl h hr) tt
 
-  pub a_length : Exact limit (st.array_length limit) (Part Any Lengths) (EnclosedBy limit fixed.LeftSquare fixed.RightSquare (λ _ n. n) (Part Any NumberIs))
-  unfolding st.array_length
+  pub a_length : Exact limit (st.length_part limit) (Part Any Lengths) (EnclosedBy limit fixed.LeftSquare fixed.RightSquare (λ _ n. n) (Part Any NumberIs))
+  unfolding st.length_part
   a_length = convert length_of (λ v w x ls k q. q) (enclosing fixed.LeftSquare fixed.RightSquare (λ _ n. n) (a_number limit))
 
-  pub length_by : Exact limit (st.array_length limit) (Part Any Lengths) (Reading limit (st.array_length limit))
+  pub length_by : Exact limit (st.length_part limit) (Part Any Lengths) (Reading limit (st.length_part limit))
   length_by = by_reading a_length.sound
 
-  pub length_reads : {v : ℕ} {n : Number} {ls : List Spelt} {k : Option TokenKind} → Lengths n v ls → Reading limit (st.array_length limit) v n v ls k
+  pub length_reads : {v : ℕ} {n : Number} {ls : List Spelt} {k : Option TokenKind} → Lengths n v ls → Reading limit (st.length_part limit) v n v ls k
   length_reads (lengths value hl h hr) = reads_by a_length (encloses _ hl (λ small. part (number_is value h) tt) hr)
 
   pub length_first : {v : ℕ} {n : Number} {ls : List Spelt} → Lengths n v ls → (k : Option TokenKind) → first ls k ≡ Some (kind.Mark mark.LeftSquare)
@@ -50,7 +50,7 @@ module _ (limit : ℕ) where
   maybe_length_of v w x ls k (on e (mapped (part s c))) = part (some_length s) tt
   maybe_length_of v w x ls k (off e done) = part no_length tt
 
-  a_maybe_length : Exact limit (st.maybe_length limit) (Part Any MaybeLength) (If fixed.LeftSquare (Map (λ x. Some x) (Reading limit (st.array_length limit))) (Done None))
+  a_maybe_length : Exact limit (st.maybe_length limit) (Part Any MaybeLength) (If fixed.LeftSquare (Map (λ x. Some x) (Reading limit (st.length_part limit))) (Done None))
   unfolding st.maybe_length
   a_maybe_length = convert maybe_length_of (λ v w x ls k q. q) (either fixed.LeftSquare (map_to (λ x. Some x) length_by) (done_at None))
 
@@ -62,10 +62,10 @@ module _ (limit : ℕ) where
   maybe_length_reads no_length n = reads_by a_maybe_length (off n done)
 
   pub data Braced : List Term → ℕ → List Spelt → Type 0 where
-    braced : {v : ℕ} {left : Token} (right : Token) {xs : List Term} {ls : List Spelt} → IsMark mark.LeftCurly left → Arguments xs (v + 1) ls → IsMark mark.RightCurly right
+    braced : {v : ℕ} {left : Token} (right : Token) {xs : List Term} {ls : List Spelt} → IsMark mark.LeftCurly left → SpellsExpressions xs (v + 1) ls → IsMark mark.RightCurly right
         → Braced xs v (at left (v + 1) ∷ (ls ++ (at right v ∷ [])))
 
-  pub braced_of : (v w : ℕ) (x : List Term) (ls : List Spelt) (k : Option TokenKind) → Enclosed fixed.LeftCurly fixed.RightCurly (λ _ xs. xs) (Part Any Arguments) v x w ls k → Part Any Braced v x w ls k
+  pub braced_of : (v w : ℕ) (x : List Term) (ls : List Spelt) (k : Option TokenKind) → Enclosed fixed.LeftCurly fixed.RightCurly (λ _ xs. xs) (Part Any SpellsExpressions) v x w ls k → Part Any Braced v x w ls k
   braced_of v w x ls k (between right hl (part s c) hr) = part (braced right hl s hr) tt
 
   a_braced : Exact limit (st.listed_values limit) (Part Any Braced) (EnclosedBy limit fixed.LeftCurly fixed.RightCurly (λ _ xs. xs) (Reading limit (st.values limit)))
@@ -151,18 +151,18 @@ module _ (limit : ℕ) where
 
   -- ---- loops
 
-  pub bound_of : (v w : ℕ) (x : Option Number) (ls : List Spelt) (k : Option TokenKind) → If fixed.Hash (Map (λ n. Some n) (Bind (Tok fixed.Hash) (λ _. Part Any NumberIs))) (Done None) v x w ls k → Part Any Bounds v x w ls k
+  pub bound_of : (v w : ℕ) (x : Option Number) (ls : List Spelt) (k : Option TokenKind) → If fixed.Hash (Map (λ n. Some n) (Bind (Tok fixed.Hash) (λ _. Part Any NumberIs))) (Done None) v x w ls k → Part Any SpellsBound v x w ls k
   bound_of v w x ls k (on e (mapped (both (tok h) (part (number_is value m) c)))) = part (bounded value h m) tt
   bound_of v w x ls k (off e done) = part unbounded tt
 
-  a_bound : Exact limit (st.bound limit) (Part Any Bounds) (If fixed.Hash (Map (λ n. Some n) (Bind (Tok fixed.Hash) (λ _. Part Any NumberIs))) (Done None))
+  a_bound : Exact limit (st.bound limit) (Part Any SpellsBound) (If fixed.Hash (Map (λ n. Some n) (Bind (Tok fixed.Hash) (λ _. Part Any NumberIs))) (Done None))
   unfolding st.bound
   a_bound = convert bound_of (λ v w x ls k q. q) (either fixed.Hash (map_to (λ n. Some n) (bind (token limit fixed.Hash) (λ _. a_number limit))) (done_at None))
 
-  pub bound_by : Exact limit (st.bound limit) (Part Any Bounds) (Reading limit (st.bound limit))
+  pub bound_by : Exact limit (st.bound limit) (Part Any SpellsBound) (Reading limit (st.bound limit))
   bound_by = by_reading a_bound.sound
 
-  pub bound_reads : {v : ℕ} {x : Option Number} {ls : List Spelt} {k : Option TokenKind} → Bounds x v ls → is_fixed fixed.Hash k ≡ false → Reading limit (st.bound limit) v x v ls k
+  pub bound_reads : {v : ℕ} {x : Option Number} {ls : List Spelt} {k : Option TokenKind} → SpellsBound x v ls → is_fixed fixed.Hash k ≡ false → Reading limit (st.bound limit) v x v ls k
   bound_reads unbounded n = reads_by a_bound (off n done)
   bound_reads (bounded {hash = t} value h m) n = reads_by a_bound (on (is_so fixed.Hash t h) (mapped (both (tok h) (part (number_is value m) tt))))
 
@@ -180,21 +180,21 @@ module _ (limit : ℕ) where
   starts_of v w x ls k (off e (on f (both (tok hi) (both (part (name_is id h) c) (both (tok m) (mapped (part s d))))))) = part (declared_start id hi h m s) tt
   starts_of v w x ls k (off e (off f (mapped (part s c)))) = part (simple_start s) tt
 
-  a_start : Exact limit (st.start limit) (Part Any ForStarts) (Start (Reading limit (st.value limit)) (Reading limit (st.simple limit)))
-  unfolding st.start st.some_start st.first_local
+  a_start : Exact limit (st.start_part limit) (Part Any ForStarts) (Start (Reading limit (st.whole_expression limit)) (Reading limit (st.simple limit)))
+  unfolding st.start_part st.some_start st.first_local
   a_start = convert starts_of (λ v w x ls k q. q)
       (either fixed.Semicolon (done_at absent)
       (either fixed.Int (bind (token limit fixed.Int) (λ int. bind (a_name limit) (λ n. bind (token limit fixed.Assign) (λ _. map_to (first_declared int n) (a_value limit)))))
       (map_to (λ x. present x) (a_simple limit))))
 
-  pub start_by : Exact limit (st.start limit) (Part Any ForStarts) (Reading limit (st.start limit))
+  pub start_by : Exact limit (st.start_part limit) (Part Any ForStarts) (Reading limit (st.start_part limit))
   start_by = by_reading a_start.sound
 
   acts_then : (f : Fixed) → ((k : Option TokenKind) → acts_first k ≡ true → is_fixed f k ≡ false) → (ls : List Spelt) (k : Option TokenKind) → ActsFirst limit ls → is_fixed f (first ls k) ≡ false
   acts_then f g [] k h = absurd h
   acts_then f g (s ∷ ls) k h = g (Some s.token.kind) h
 
-  start_reads : {v : ℕ} {x : Perhaps} {ls : List Spelt} {k : Option TokenKind} → ForStarts x v ls → v ≤ limit → is_fixed fixed.Semicolon k ≡ true → ends k ≡ true → Reading limit (st.start limit) v x v ls k
+  start_reads : {v : ℕ} {x : Perhaps} {ls : List Spelt} {k : Option TokenKind} → ForStarts x v ls → v ≤ limit → is_fixed fixed.Semicolon k ≡ true → ends k ≡ true → Reading limit (st.start_part limit) v x v ls k
   start_reads no_start small n e = reads_by a_start (on n done)
   start_reads {ls = ls} {k = k} (simple_start s) small n e =
       reads_by a_start (off (acts_then fixed.Semicolon acts_semicolon ls k (simple_first limit s)) (off (acts_then fixed.Int acts_int ls k (simple_first limit s)) (mapped (simple_reads limit s small e))))
@@ -205,7 +205,7 @@ module _ (limit : ℕ) where
   tests_of v w x ls k (on e done) = part no_test tt
   tests_of v w x ls k (off e (mapped (part s c))) = part (some_test s) tt
 
-  a_test : Exact limit (st.loop_test limit) (Part Any Tests) (If fixed.Semicolon (Done None) (Map (λ x. Some x) (Reading limit (st.value limit))))
+  a_test : Exact limit (st.loop_test limit) (Part Any Tests) (If fixed.Semicolon (Done None) (Map (λ x. Some x) (Reading limit (st.whole_expression limit))))
   unfolding st.loop_test
   a_test = convert tests_of (λ v w x ls k q. q) (either fixed.Semicolon (done_at None) (map_to (λ x. Some x) (a_value limit)))
 
@@ -220,14 +220,14 @@ module _ (limit : ℕ) where
   steps_of v w x ls k (on e done) = part no_step tt
   steps_of v w x ls k (off e (mapped (part s c))) = part (some_step s) tt
 
-  a_step : Exact limit (st.step limit) (Part Any ForSteps) (If fixed.RightRound (Done absent) (Map (λ x. present x) (Reading limit (st.simple limit))))
-  unfolding st.step
+  a_step : Exact limit (st.step_part limit) (Part Any ForSteps) (If fixed.RightRound (Done absent) (Map (λ x. present x) (Reading limit (st.simple limit))))
+  unfolding st.step_part
   a_step = convert steps_of (λ v w x ls k q. q) (either fixed.RightRound (done_at absent) (map_to (λ x. present x) (a_simple limit)))
 
-  pub step_by : Exact limit (st.step limit) (Part Any ForSteps) (Reading limit (st.step limit))
+  pub step_by : Exact limit (st.step_part limit) (Part Any ForSteps) (Reading limit (st.step_part limit))
   step_by = by_reading a_step.sound
 
-  step_reads : {v : ℕ} {x : Perhaps} {ls : List Spelt} {k : Option TokenKind} → ForSteps x v ls → v ≤ limit → is_fixed fixed.RightRound k ≡ true → ends k ≡ true → Reading limit (st.step limit) v x v ls k
+  step_reads : {v : ℕ} {x : Perhaps} {ls : List Spelt} {k : Option TokenKind} → ForSteps x v ls → v ≤ limit → is_fixed fixed.RightRound k ≡ true → ends k ≡ true → Reading limit (st.step_part limit) v x v ls k
   step_reads no_step small n e = reads_by a_step (on n done)
   step_reads {ls = ls} {k = k} (some_step s) small n e = reads_by a_step (off (acts_then fixed.RightRound acts_round ls k (simple_first limit s)) (mapped (simple_reads limit s small e)))
 
@@ -237,7 +237,7 @@ module _ (limit : ℕ) where
   pub head_parts_of : (v w : ℕ) (x : Head) (ls : List Spelt) (k : Option TokenKind) → Triple (Part Any ForStarts) (Part Any Tests) (Part Any ForSteps) v x w ls k → Part Any HeadParts v x w ls k
   head_parts_of v w x ls k (both (part a c) (both (tok m) (both (part b d) (both (tok n) (mapped (part s e)))))) = part (head_parts _ _ a m b n s) tt
 
-  pub head_parts_by : Exact limit (st.head_parts limit) (Part Any HeadParts) (Triple (Reading limit (st.start limit)) (Reading limit (st.loop_test limit)) (Reading limit (st.step limit)))
+  pub head_parts_by : Exact limit (st.head_parts limit) (Part Any HeadParts) (Triple (Reading limit (st.start_part limit)) (Reading limit (st.loop_test limit)) (Reading limit (st.step_part limit)))
   unfolding st.head_parts
   head_parts_by = convert head_parts_of (λ v w x ls k q. q)
       (bind start_by (λ first. bind (token limit fixed.Semicolon) (λ _. bind test_by (λ second. bind (token limit fixed.Semicolon) (λ _. map_to (λ third. head_of first second third) step_by)))))
@@ -245,7 +245,7 @@ module _ (limit : ℕ) where
   pub heads_of : (v w : ℕ) (x : Head) (ls : List Spelt) (k : Option TokenKind) → Enclosed fixed.LeftRound fixed.RightRound (λ _ h. h) (Part Any HeadParts) v x w ls k → Part Any Heads v x w ls k
   heads_of v w x ls k (between right hl (part q c) hr) = part (heads right hl q hr) tt
 
-  a_head : Exact limit (st.head limit) (Part Any Heads) (EnclosedBy limit fixed.LeftRound fixed.RightRound (λ _ h. h) (Triple (Reading limit (st.start limit)) (Reading limit (st.loop_test limit)) (Reading limit (st.step limit))))
+  a_head : Exact limit (st.head limit) (Part Any Heads) (EnclosedBy limit fixed.LeftRound fixed.RightRound (λ _ h. h) (Triple (Reading limit (st.start_part limit)) (Reading limit (st.loop_test limit)) (Reading limit (st.step_part limit))))
   unfolding st.head
   a_head = convert heads_of (λ v w x ls k q. q) (enclosing fixed.LeftRound fixed.RightRound (λ _ h. h) head_parts_by)
 
@@ -259,7 +259,7 @@ module _ (limit : ℕ) where
   round_ends t h = rw h
 
   parts_read : {v : ℕ} {x : Head} {ls : List Spelt} {k : Option TokenKind} → HeadParts x v ls → v ≤ limit → is_fixed fixed.RightRound k ≡ true → ends k ≡ true
-      → Triple (Reading limit (st.start limit)) (Reading limit (st.loop_test limit)) (Reading limit (st.step limit)) v x v ls k
+      → Triple (Reading limit (st.start_part limit)) (Reading limit (st.loop_test limit)) (Reading limit (st.step_part limit)) v x v ls k
   parts_read (head_parts first second a m b n s) small r e =
       both (start_reads a small (is_so fixed.Semicolon first m) (semicolon_ends first m)) (both (tok m)
       (both (test_reads b small (is_so fixed.Semicolon second n) (semicolon_ends second n)) (both (tok n) (mapped (step_reads s small r e)))))

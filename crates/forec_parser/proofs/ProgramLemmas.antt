@@ -11,7 +11,7 @@ use Rattle.forec_tree.specs.SpelledPrograms.{Introduces, Programs, no_items, mor
 use Rattle.expr_parser.specs.declared.fault.Fault.TheVariants.{Syntax}
 use Rattle.expr_parser.specs.Input.{Input, input, and_then, kind_ahead, at_end, max_level}
 use Rattle.forec_parser.specs.Items.{item, items, items_from}
-use Rattle.forec_parser.specs.Program.{Ends}
+use Rattle.forec_parser.specs.Program.{ReadsProgram}
 use Rattle.expr_parser.proofs.Spans.{tokens_append, within_more, step, ok_of, ok_pair}
 use Rattle.expr_parser.proofs.Exact.{Read, Bind, both, Map, mapped, Part, part, Any, Follows, comes, comes_within, follow_then, then_read, read_as, read_at}
 use Rattle.expr_parser.proofs.Leaves.{Filled, filled-long}
@@ -138,8 +138,8 @@ one_program k l a b ts s t =
 
 -- ---- for the function that reads
 
-pub found_so : (ts : List Token) (p : Program) → Ends (items max_level (input ts 0)) p → IsSpelled max_level (program p) ts
+pub found_so : (ts : List Token) (p : Program) → ReadsProgram (items max_level (input ts 0)) p → IsSpelled max_level (program p) ts
 found_so ts p e = spelled_so max_level (program p) ts e.state e.reads
 
-pub only_so : (ts : List Token) (p : Program) (text : Text) → Ends (items max_level (input ts 0)) p → IsSpelled max_level text ts → program p ≡ text
+pub only_so : (ts : List Token) (p : Program) (text : Text) → ReadsProgram (items max_level (input ts 0)) p → IsSpelled max_level text ts → program p ≡ text
 only_so ts p text e s = (ok_pair (program p) text e.state (input [] 0) (sym e.reads ∙ read_back max_level text ts s)).0

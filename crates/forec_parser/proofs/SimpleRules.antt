@@ -8,8 +8,8 @@ use Rattle.forec_tree.specs.declared.token.TokenKind.TheVariants as kind
 use Rattle.forec_tree.specs.declared.token.Mark.TheVariants as mark
 use Rattle.forec_tree.specs.declared.tree.OpAt.{OpAt}
 use Rattle.forec_tree.specs.Terms as plain
-use Rattle.forec_tree.specs.Terms.{Term, Written, Statement}
-use Rattle.forec_tree.specs.Spelling.{Spelt, at, IsMark, IsName, name_at, listed, Whole, Brackets, Indexes, Passes, Arguments}
+use Rattle.forec_tree.specs.Terms.{Term, PlainTarget, Statement}
+use Rattle.forec_tree.specs.Spelling.{Spelt, at, IsMark, IsNameToken, name_at, listed, Whole, Brackets, SpellsIndex, SpellsArguments, SpellsExpressions}
 use Rattle.forec_tree.specs.Parts.{op_at, updates_by, steps_by, written_at}
 use Rattle.forec_tree.specs.SpelledStatements.{IsUpdate, IsStep, Separated, last_part, next_part, Targets, scalar, indexed, Simple, sets, updates, steps_after, steps_ahead, invokes}
 use Rattle.expr_parser.specs.declared.fixed.Fixed.TheVariants as fixed
@@ -19,9 +19,9 @@ use Rattle.forec_parser.specs.declared.meaning.Act.{Act}
 use Rattle.forec_parser.specs.declared.meaning.Act.TheVariants as act
 use Rattle.expr_parser.specs.Input.{Input, Parser, kind_ahead, take}
 use Rattle.expr_parser.specs.Meaning.{is_fixed}
-use Rattle.forec_parser.specs.Meaning.{update_of, step_of, change_of, act_of}
+use Rattle.forec_parser.specs.Meaning.{update_of, token_step, change_of, act_of}
 use Rattle.expr_parser.specs.Reading as reading
-use Rattle.expr_parser.specs.Reading.{expr, separated}
+use Rattle.expr_parser.specs.Reading.{read_expression, separated}
 use Rattle.forec_parser.specs.Statements as st
 use Rattle.forec_parser.specs.Statements.{op_by}
 use Rattle.expr_parser.proofs.Spans.{first, first-append, step, ok_pair, took, take_ok}
@@ -83,9 +83,9 @@ module _ (limit : ℕ) where
   update_by i j n small None e h = absurd (cc)
   update_by i j n small (Some op) e h = op_read updates_by op i j n small (λ t ts f. sym (ap (λ z. update_of (kind_ahead z)) f) ∙ e) h
 
-  step_by : (i j : Input) (n : OpAt) → i.level ≤ limit → (o : Option Binary) → step_of (kind_ahead i.rest) ≡ o → op_by o i ≡ Ok (n, j) → Read limit (Part Any (OpIs steps_by)) n i j
+  step_by : (i j : Input) (n : OpAt) → i.level ≤ limit → (o : Option Binary) → token_step (kind_ahead i.rest) ≡ o → op_by o i ≡ Ok (n, j) → Read limit (Part Any (OpIs steps_by)) n i j
   step_by i j n small None e h = absurd (cc)
-  step_by i j n small (Some op) e h = op_read steps_by op i j n small (λ t ts f. sym (ap (λ z. step_of (kind_ahead z)) f) ∙ e) h
+  step_by i j n small (Some op) e h = op_read steps_by op i j n small (λ t ts f. sym (ap (λ z. token_step (kind_ahead z)) f) ∙ e) h
 
   pub an_update : Exact limit st.update (Part Any (OpIs updates_by)) (Reading limit st.update)
   unfolding st.update
@@ -93,7 +93,7 @@ module _ (limit : ℕ) where
 
   pub a_step : Exact limit st.step_mark (Part Any (OpIs steps_by)) (Reading limit st.step_mark)
   unfolding st.step_mark
-  a_step = by_reading (λ i j n small h. step_by i j n small (step_of (kind_ahead i.rest)) refl h)
+  a_step = by_reading (λ i j n small h. step_by i j n small (token_step (kind_ahead i.rest)) refl h)
 
   update_reads : {v : ℕ} {n : OpAt} {ls : List Spelt} {k : Option TokenKind} → OpIs updates_by n v ls → Reading limit st.update v n v ls k
   unfolding st.update
@@ -101,63 +101,63 @@ module _ (limit : ℕ) where
 
   step_reads : {v : ℕ} {n : OpAt} {ls : List Spelt} {k : Option TokenKind} → OpIs steps_by n v ls → Reading limit st.step_mark v n v ls k
   unfolding st.step_mark
-  step_reads (op_is {v} {t} op h) = reading (λ rest e. let f : step_of (Some t.kind) ≡ Some op = h in rw (f, take_ok) comes)
+  step_reads (op_is {v} {t} op h) = reading (λ rest e. let f : token_step (Some t.kind) ≡ Some op = h in rw (f, take_ok) comes)
 
   -- ---- expressions in statements
 
-  pub a_value : Exact limit (st.value limit) (Part Any Whole) (Reading limit (st.value limit))
-  unfolding st.value
-  a_value = value_by limit (expr limit (suc limit)) (sound limit (suc limit))
+  pub a_value : Exact limit (st.whole_expression limit) (Part Any Whole) (Reading limit (st.whole_expression limit))
+  unfolding st.whole_expression
+  a_value = value_by limit (read_expression limit (suc limit)) (sound limit (suc limit))
 
-  pub value_reads : {v : ℕ} {x : Term} {ls : List Spelt} {k : Option TokenKind} → Whole x v ls → v ≤ limit → ends k ≡ true → Reading limit (st.value limit) v x v ls k
-  unfolding st.value
+  pub value_reads : {v : ℕ} {x : Term} {ls : List Spelt} {k : Option TokenKind} → Whole x v ls → v ≤ limit → ends k ≡ true → Reading limit (st.whole_expression limit) v x v ls k
+  unfolding st.whole_expression
   value_reads {k = k} s small e = complete_whole limit s (suc limit) k small (omega arith) e
 
-  some_values : Exact limit (st.values limit) (Part Any Arguments) (Listed (Full (Reading limit (reading.value limit (expr limit (suc limit))))))
+  some_values : Exact limit (st.values limit) (Part Any SpellsExpressions) (Listed (Full (Reading limit (reading.value limit (read_expression limit (suc limit))))))
   unfolding st.values
-  some_values = convert (λ v w x ls k q. arguments_part q) (λ v w x ls k q. q) (full_commas (value_by limit (expr limit (suc limit)) (sound limit (suc limit))))
+  some_values = convert (λ v w x ls k q. arguments_part q) (λ v w x ls k q. q) (full_commas (value_by limit (read_expression limit (suc limit)) (sound limit (suc limit))))
 
-  pub values_by : Exact limit (st.values limit) (Part Any Arguments) (Reading limit (st.values limit))
+  pub values_by : Exact limit (st.values limit) (Part Any SpellsExpressions) (Reading limit (st.values limit))
   values_by = by_reading some_values.sound
 
-  pub values_read : {v : ℕ} {xs : List Term} {ls : List Spelt} {k : Option TokenKind} → Arguments xs v ls → v ≤ limit → ends k ≡ true → is_fixed fixed.Comma k ≡ false → Reading limit (st.values limit) v xs v ls k
+  pub values_read : {v : ℕ} {xs : List Term} {ls : List Spelt} {k : Option TokenKind} → SpellsExpressions xs v ls → v ≤ limit → ends k ≡ true → is_fixed fixed.Comma k ≡ false → Reading limit (st.values limit) v xs v ls k
   values_read {k = k} s small e n = reads_by some_values (complete_arguments limit s (suc limit) k small (omega arith) e n)
 
-  pub a_bracketed : Exact limit (st.bracketed limit) (Part Any Brackets) (Reading limit (st.bracketed limit))
-  unfolding st.bracketed
-  a_bracketed = bracketed_by limit (expr limit (suc limit)) (sound limit (suc limit))
+  pub a_bracketed : Exact limit (st.bracketed_expression limit) (Part Any Brackets) (Reading limit (st.bracketed_expression limit))
+  unfolding st.bracketed_expression
+  a_bracketed = bracketed_by limit (read_expression limit (suc limit)) (sound limit (suc limit))
 
-  pub bracketed_reads : {v : ℕ} {x : Term} {ls : List Spelt} {k : Option TokenKind} → Brackets x v ls → Reading limit (st.bracketed limit) v x v ls k
-  unfolding st.bracketed
+  pub bracketed_reads : {v : ℕ} {x : Term} {ls : List Spelt} {k : Option TokenKind} → Brackets x v ls → Reading limit (st.bracketed_expression limit) v x v ls k
+  unfolding st.bracketed_expression
   bracketed_reads {k = k} s = complete_brackets limit s (suc limit) k (omega arith)
 
-  pub an_indexed : Exact limit (st.indexed limit) (Part Any Indexes) (Reading limit (st.indexed limit))
-  unfolding st.indexed
-  an_indexed = indexed_by limit (expr limit (suc limit)) (sound limit (suc limit))
+  pub an_indexed : Exact limit (st.index_expression limit) (Part Any SpellsIndex) (Reading limit (st.index_expression limit))
+  unfolding st.index_expression
+  an_indexed = indexed_by limit (read_expression limit (suc limit)) (sound limit (suc limit))
 
-  indexed_reads : {v : ℕ} {x : Term} {ls : List Spelt} {k : Option TokenKind} → Indexes x v ls → Reading limit (st.indexed limit) v x v ls k
-  unfolding st.indexed
+  indexed_reads : {v : ℕ} {x : Term} {ls : List Spelt} {k : Option TokenKind} → SpellsIndex x v ls → Reading limit (st.index_expression limit) v x v ls k
+  unfolding st.index_expression
   indexed_reads {k = k} s = complete_indexes limit s (suc limit) k (omega arith)
 
-  pub a_passed : Exact limit (st.passed limit) (Part Any Passes) (Reading limit (st.passed limit))
-  unfolding st.passed
-  a_passed = passed_by limit (expr limit (suc limit)) (sound limit (suc limit))
+  pub a_passed : Exact limit (st.passed_expressions limit) (Part Any SpellsArguments) (Reading limit (st.passed_expressions limit))
+  unfolding st.passed_expressions
+  a_passed = passed_by limit (read_expression limit (suc limit)) (sound limit (suc limit))
 
-  pub passed_reads : {v : ℕ} {xs : List Term} {ls : List Spelt} {k : Option TokenKind} → Passes xs v ls → Reading limit (st.passed limit) v xs v ls k
-  unfolding st.passed
+  pub passed_reads : {v : ℕ} {xs : List Term} {ls : List Spelt} {k : Option TokenKind} → SpellsArguments xs v ls → Reading limit (st.passed_expressions limit) v xs v ls k
+  unfolding st.passed_expressions
   passed_reads {k = k} s = complete_passes limit s (suc limit) k (omega arith)
 
   -- ---- targets
 
   pub data MaybeIndex : Option Term → ℕ → List Spelt → Type 0 where
-    some_index : {v : ℕ} {x : Term} {ls : List Spelt} → Indexes x v ls → MaybeIndex (Some x) v ls
+    some_index : {v : ℕ} {x : Term} {ls : List Spelt} → SpellsIndex x v ls → MaybeIndex (Some x) v ls
     no_index : {v : ℕ} → MaybeIndex None v []
 
-  pub maybe_index_of : (v w : ℕ) (x : Option Term) (ls : List Spelt) (k : Option TokenKind) → If fixed.LeftSquare (Map (λ x. Some x) (Part Any Indexes)) (Done None) v x w ls k → Part Any MaybeIndex v x w ls k
+  pub maybe_index_of : (v w : ℕ) (x : Option Term) (ls : List Spelt) (k : Option TokenKind) → If fixed.LeftSquare (Map (λ x. Some x) (Part Any SpellsIndex)) (Done None) v x w ls k → Part Any MaybeIndex v x w ls k
   maybe_index_of v w x ls k (on e (mapped (part s c))) = part (some_index s) tt
   maybe_index_of v w x ls k (off e done) = part no_index tt
 
-  a_maybe_index : Exact limit (st.maybe_index limit) (Part Any MaybeIndex) (If fixed.LeftSquare (Map (λ x. Some x) (Reading limit (st.indexed limit))) (Done None))
+  a_maybe_index : Exact limit (st.maybe_index limit) (Part Any MaybeIndex) (If fixed.LeftSquare (Map (λ x. Some x) (Reading limit (st.index_expression limit))) (Done None))
   unfolding st.maybe_index
   a_maybe_index = convert maybe_index_of (λ v w x ls k q. q) (either fixed.LeftSquare (map_to (λ x. Some x) an_indexed) (done_at None))
 
@@ -168,7 +168,7 @@ module _ (limit : ℕ) where
   maybe_index_reads {k = k} (some_index s) n = reads_by a_maybe_index (on (ap (is_fixed fixed.LeftSquare) (indexes_first s k)) (mapped (indexed_reads s)))
   maybe_index_reads no_index n = reads_by a_maybe_index (off n done)
 
-  pub target_of : (v w : ℕ) (x : Written) (ls : List Spelt) (k : Option TokenKind) → Bind (Part Any NameIs) (λ n. Map (λ x. written_at n x) (Part Any MaybeIndex)) v x w ls k → Part Any Targets v x w ls k
+  pub target_of : (v w : ℕ) (x : PlainTarget) (ls : List Spelt) (k : Option TokenKind) → Bind (Part Any NameIs) (λ n. Map (λ x. written_at n x) (Part Any MaybeIndex)) v x w ls k → Part Any Targets v x w ls k
   target_of v w x ls k (both (part (name_is id h) c) (mapped (part (some_index s) d))) = part (indexed id h s) tt
   target_of v w x ls k (both (part (name_is id h) c) (mapped (part no_index d))) = part (scalar id h) tt
 
@@ -179,65 +179,65 @@ module _ (limit : ℕ) where
   pub target_by : Exact limit (st.target limit) (Part Any Targets) (Reading limit (st.target limit))
   target_by = by_reading a_target.sound
 
-  target_reads : {v : ℕ} {x : Written} {ls : List Spelt} {k : Option TokenKind} → Targets x v ls → is_fixed fixed.LeftSquare k ≡ false → Reading limit (st.target limit) v x v ls k
+  target_reads : {v : ℕ} {x : PlainTarget} {ls : List Spelt} {k : Option TokenKind} → Targets x v ls → is_fixed fixed.LeftSquare k ≡ false → Reading limit (st.target limit) v x v ls k
   target_reads (scalar id h) n = reads_by a_target (both (part (name_is id h) tt) (mapped (maybe_index_reads no_index n)))
   target_reads (indexed id h s) n = reads_by a_target (both (part (name_is id h) tt) (mapped (maybe_index_reads (some_index s) n)))
 
   -- ---- changes
 
-  pub data Changes (target : Written) : Statement → ℕ → List Spelt → Type 0 where
+  pub data Changes (target : PlainTarget) : Statement → ℕ → List Spelt → Type 0 where
     by_set : {v : ℕ} {t : Token} {x : Term} {ls : List Spelt} → IsMark mark.Assign t → Whole x v ls → Changes target (plain.Assign target.name.place target None x) v (at t v ∷ ls)
     by_update : {v : ℕ} {t : Token} {x : Term} {ls : List Spelt} (op : Binary) → IsUpdate op t → Whole x v ls → Changes target (plain.Assign target.name.place target (Some (op_at op t.place)) x) v (at t v ∷ ls)
     by_step : {v : ℕ} {t : Token} (op : Binary) → IsStep op t → Changes target (plain.Assign target.name.place target (Some (op_at op t.place)) (plain.Num t.place (pos 1))) v (at t v ∷ [])
 
-  setting : (target : Written) → Exact limit (st.changed_by limit change.Sets target) (Bind (Tok fixed.Assign) (λ _. Map (λ x. plain.Assign target.name.place target None x) (Part Any Whole)))
-      (Bind (Tok fixed.Assign) (λ _. Map (λ x. plain.Assign target.name.place target None x) (Reading limit (st.value limit))))
+  setting : (target : PlainTarget) → Exact limit (st.changed_by limit change.Sets target) (Bind (Tok fixed.Assign) (λ _. Map (λ x. plain.Assign target.name.place target None x) (Part Any Whole)))
+      (Bind (Tok fixed.Assign) (λ _. Map (λ x. plain.Assign target.name.place target None x) (Reading limit (st.whole_expression limit))))
   setting target = bind (token limit fixed.Assign) (λ _. map_to (λ x. plain.Assign target.name.place target None x) a_value)
 
-  updating : (target : Written) → Exact limit (st.changed_by limit change.Updates target) (Bind (Part Any (OpIs updates_by)) (λ op. Map (λ x. plain.Assign target.name.place target (Some op) x) (Part Any Whole)))
-      (Bind (Reading limit st.update) (λ op. Map (λ x. plain.Assign target.name.place target (Some op) x) (Reading limit (st.value limit))))
+  updating : (target : PlainTarget) → Exact limit (st.changed_by limit change.Updates target) (Bind (Part Any (OpIs updates_by)) (λ op. Map (λ x. plain.Assign target.name.place target (Some op) x) (Part Any Whole)))
+      (Bind (Reading limit st.update) (λ op. Map (λ x. plain.Assign target.name.place target (Some op) x) (Reading limit (st.whole_expression limit))))
   updating target = bind an_update (λ op. map_to (λ x. plain.Assign target.name.place target (Some op) x) a_value)
 
-  abbrev pub stepping_to : Written → OpAt → Statement
+  abbrev pub stepping_to : PlainTarget → OpAt → Statement
   stepping_to target op = plain.Assign target.name.place target (Some op) (plain.Num op.place (pos 1))
 
-  stepping : (target : Written) → Exact limit (st.changed_by limit change.Increments target) (Map (stepping_to target) (Part Any (OpIs steps_by))) (Map (stepping_to target) (Reading limit st.step_mark))
+  stepping : (target : PlainTarget) → Exact limit (st.changed_by limit change.Increments target) (Map (stepping_to target) (Part Any (OpIs steps_by))) (Map (stepping_to target) (Reading limit st.step_mark))
   stepping target = map_to (stepping_to target) a_step
 
-  pub set_of : {target : Written} {v w : ℕ} {y : Statement} {ls : List Spelt} {k : Option TokenKind} → Bind (Tok fixed.Assign) (λ _. Map (λ x. plain.Assign target.name.place target None x) (Part Any Whole)) v y w ls k → Part Any (Changes target) v y w ls k
+  pub set_of : {target : PlainTarget} {v w : ℕ} {y : Statement} {ls : List Spelt} {k : Option TokenKind} → Bind (Tok fixed.Assign) (λ _. Map (λ x. plain.Assign target.name.place target None x) (Part Any Whole)) v y w ls k → Part Any (Changes target) v y w ls k
   set_of (both (tok h) (mapped (part s c))) = part (by_set h s) tt
 
-  pub updated_of : {target : Written} {v w : ℕ} {y : Statement} {ls : List Spelt} {k : Option TokenKind} → Bind (Part Any (OpIs updates_by)) (λ op. Map (λ x. plain.Assign target.name.place target (Some op) x) (Part Any Whole)) v y w ls k → Part Any (Changes target) v y w ls k
+  pub updated_of : {target : PlainTarget} {v w : ℕ} {y : Statement} {ls : List Spelt} {k : Option TokenKind} → Bind (Part Any (OpIs updates_by)) (λ op. Map (λ x. plain.Assign target.name.place target (Some op) x) (Part Any Whole)) v y w ls k → Part Any (Changes target) v y w ls k
   updated_of (both (part (op_is op h) c) (mapped (part s d))) = part (by_update op h s) tt
 
-  pub moved_of : {target : Written} {v w : ℕ} {y : Statement} {ls : List Spelt} {k : Option TokenKind} → Map (stepping_to target) (Part Any (OpIs steps_by)) v y w ls k → Part Any (Changes target) v y w ls k
+  pub moved_of : {target : PlainTarget} {v w : ℕ} {y : Statement} {ls : List Spelt} {k : Option TokenKind} → Map (stepping_to target) (Part Any (OpIs steps_by)) v y w ls k → Part Any (Changes target) v y w ls k
   moved_of (mapped (part (op_is op h) c)) = part (by_step op h) tt
 
-  changes_of : (target : Written) (c : Change) (i j : Input) (x : Statement) → i.level ≤ limit → st.changed_by limit c target i ≡ Ok (x, j) → Read limit (Part Any (Changes target)) x i j
+  changes_of : (target : PlainTarget) (c : Change) (i j : Input) (x : Statement) → i.level ≤ limit → st.changed_by limit c target i ≡ Ok (x, j) → Read limit (Part Any (Changes target)) x i j
   changes_of target change.Sets i j x small h = read_as ((setting target).sound i j x small h) (λ ls e q. set_of q)
   changes_of target change.Updates i j x small h = read_as ((updating target).sound i j x small h) (λ ls e q. updated_of q)
   changes_of target change.Increments i j x small h = read_as ((stepping target).sound i j x small h) (λ ls e q. moved_of q)
   changes_of target change.Nothing i j x small h = absurd (cc)
 
-  pub changed_by : (target : Written) → Exact limit (st.changed limit target) (Part Any (Changes target)) (Reading limit (st.changed limit target))
+  pub changed_by : (target : PlainTarget) → Exact limit (st.changed limit target) (Part Any (Changes target)) (Reading limit (st.changed limit target))
   unfolding st.changed
   changed_by target = by_reading (λ i j x small h. changes_of target (change_of (kind_ahead i.rest)) i j x small h)
 
-  set_reads : {target : Written} {v : ℕ} {t : Token} {x : Term} {ls : List Spelt} {k : Option TokenKind} → IsMark mark.Assign t → Whole x v ls → v ≤ limit → ends k ≡ true
+  set_reads : {target : PlainTarget} {v : ℕ} {t : Token} {x : Term} {ls : List Spelt} {k : Option TokenKind} → IsMark mark.Assign t → Whole x v ls → v ≤ limit → ends k ≡ true
       → Reading limit (st.changed limit target) v (plain.Assign target.name.place target None x) v (at t v ∷ ls) k
   unfolding st.changed
   set_reads {target} {v} {t} {x} {ls} {k} h s small n = reading (λ rest e.
       let c : change_of (Some t.kind) ≡ change.Sets = rw h in
       rw c (read_at (reads_by (setting target) (both (tok h) (mapped (value_reads s small n)))) rest e))
 
-  update_changed : {target : Written} {v : ℕ} {t : Token} {x : Term} {ls : List Spelt} {k : Option TokenKind} (op : Binary) → IsUpdate op t → Whole x v ls → v ≤ limit → ends k ≡ true
+  update_changed : {target : PlainTarget} {v : ℕ} {t : Token} {x : Term} {ls : List Spelt} {k : Option TokenKind} (op : Binary) → IsUpdate op t → Whole x v ls → v ≤ limit → ends k ≡ true
       → Reading limit (st.changed limit target) v (plain.Assign target.name.place target (Some (op_at op t.place)) x) v (at t v ∷ ls) k
   unfolding st.changed
   update_changed {target} {v} {t} {x} {ls} {k} op h s small n = reading (λ rest e.
       let c : change_of (Some t.kind) ≡ change.Updates = update_changes t.kind op h in
       rw c (read_at (reads_by (updating target) (both (update_reads (op_is op h)) (mapped (value_reads s small n)))) rest e))
 
-  step_changed : {target : Written} {v : ℕ} {t : Token} {k : Option TokenKind} (op : Binary) → IsStep op t
+  step_changed : {target : PlainTarget} {v : ℕ} {t : Token} {k : Option TokenKind} (op : Binary) → IsStep op t
       → Reading limit (st.changed limit target) v (plain.Assign target.name.place target (Some (op_at op t.place)) (plain.Num t.place (pos 1))) v (at t v ∷ []) k
   unfolding st.changed
   step_changed {target} {v} {t} {k} op h = reading (λ rest e.
@@ -246,15 +246,15 @@ module _ (limit : ℕ) where
 
   -- ---- simple statements
 
-  abbrev pub Named : Lang (List Term) → Lang (Option Term) → (Written → Lang Statement) → Lang Statement
+  abbrev pub Named : Lang (List Term) → Lang (Option Term) → (PlainTarget → Lang Statement) → Lang Statement
   Named P I C = Bind (Part Any NameIs) (λ n. If fixed.LeftRound (Map (λ args. plain.Invoke n.place n (listed args)) P) (Bind I (λ index. C (written_at n index))))
 
-  a_named : Exact limit (st.named limit) (Named (Part Any Passes) (Part Any MaybeIndex) (λ w. Part Any (Changes w)))
-      (Named (Reading limit (st.passed limit)) (Reading limit (st.maybe_index limit)) (λ w. Reading limit (st.changed limit w)))
-  unfolding st.named st.invoked st.assigned
+  a_named : Exact limit (st.named_statement limit) (Named (Part Any SpellsArguments) (Part Any MaybeIndex) (λ w. Part Any (Changes w)))
+      (Named (Reading limit (st.passed_expressions limit)) (Reading limit (st.maybe_index limit)) (λ w. Reading limit (st.changed limit w)))
+  unfolding st.named_statement st.invoked st.assign_statement
   a_named = bind (a_name limit) (λ n. either fixed.LeftRound (map_to (λ args. plain.Invoke n.place n (listed args)) a_passed) (bind maybe_index_by (λ index. changed_by (written_at n index))))
 
-  pub named_of : {v w : ℕ} {x : Statement} {ls : List Spelt} {k : Option TokenKind} → Named (Part Any Passes) (Part Any MaybeIndex) (λ w. Part Any (Changes w)) v x w ls k → Part Any Simple v x w ls k
+  pub named_of : {v w : ℕ} {x : Statement} {ls : List Spelt} {k : Option TokenKind} → Named (Part Any SpellsArguments) (Part Any MaybeIndex) (λ w. Part Any (Changes w)) v x w ls k → Part Any Simple v x w ls k
   named_of (both (part (name_is id h) c) (on e (mapped (part s d)))) = part (invokes id h s) tt
   named_of (both (part (name_is id h) c) (off e (both (part no_index d) (part (by_set m s) f)))) = part (sets _ (scalar id h) m s) tt
   named_of (both (part (name_is id h) c) (off e (both (part no_index d) (part (by_update op m s) f)))) = part (updates _ op (scalar id h) m s) tt
@@ -263,7 +263,7 @@ module _ (limit : ℕ) where
   named_of (both (part (name_is id h) c) (off e (both (part (some_index r) d) (part (by_update op m s) f)))) = part (updates _ op (indexed id h r) m s) tt
   named_of (both (part (name_is id h) c) (off e (both (part (some_index r) d) (part (by_step op m) f)))) = part (steps_after _ op (indexed id h r) m) tt
 
-  abbrev pub stepped_to : OpAt → Written → Statement
+  abbrev pub stepped_to : OpAt → PlainTarget → Statement
   stepped_to op target = plain.Assign op.place target (Some op) (plain.Num op.place (pos 1))
 
   a_stepped : Exact limit (st.stepped limit) (Bind (Part Any (OpIs steps_by)) (λ op. Map (stepped_to op) (Part Any Targets))) (Bind (Reading limit st.step_mark) (λ op. Map (stepped_to op) (Reading limit (st.target limit))))
@@ -282,8 +282,8 @@ module _ (limit : ℕ) where
   unfolding st.simple
   a_simple = by_reading (λ i j x small h. simple_of (act_of (kind_ahead i.rest)) i j x small h)
 
-  by_name : {v : ℕ} {x : Statement} {ls : List Spelt} {k : Option TokenKind} {t : Token} (id : ℕ) → IsName id t
-      → If fixed.LeftRound (Map (λ args. plain.Invoke t.place (name_at id t.place) (listed args)) (Reading limit (st.passed limit)))
+  by_name : {v : ℕ} {x : Statement} {ls : List Spelt} {k : Option TokenKind} {t : Token} (id : ℕ) → IsNameToken id t
+      → If fixed.LeftRound (Map (λ args. plain.Invoke t.place (name_at id t.place) (listed args)) (Reading limit (st.passed_expressions limit)))
       (Bind (Reading limit (st.maybe_index limit)) (λ index. Reading limit (st.changed limit (written_at (name_at id t.place) index)))) v x v ls k
       → Reading limit (st.simple limit) v x v (at t v ∷ ls) k
   unfolding st.simple
@@ -291,7 +291,7 @@ module _ (limit : ℕ) where
       let c : act_of (Some t.kind) ≡ act.Named = rw h in
       rw c (read_at (reads_by a_named (both (part (name_is id h) tt) q)) rest e))
 
-  scalar_changed : {v : ℕ} {x : Statement} {ls : List Spelt} {k : Option TokenKind} {t : Token} (id : ℕ) → IsName id t
+  scalar_changed : {v : ℕ} {x : Statement} {ls : List Spelt} {k : Option TokenKind} {t : Token} (id : ℕ) → IsNameToken id t
       → is_fixed fixed.LeftRound (first ls k) ≡ false → is_fixed fixed.LeftSquare (first ls k) ≡ false → Reading limit (st.changed limit (written_at (name_at id t.place) None)) v x v ls k
       → Reading limit (st.simple limit) v x v (at t v ∷ ls) k
   scalar_changed id h a b r = by_name id h (off a (both (maybe_index_reads no_index b) r))
@@ -299,7 +299,7 @@ module _ (limit : ℕ) where
   square_round : (o : Option TokenKind) → o ≡ Some (kind.Mark mark.LeftSquare) → is_fixed fixed.LeftRound o ≡ false
   square_round o e = ap (is_fixed fixed.LeftRound) e
 
-  index_changed : {v : ℕ} {x : Statement} {index : Term} {ls rs : List Spelt} {k : Option TokenKind} {t : Token} (id : ℕ) → IsName id t → Indexes index v ls
+  index_changed : {v : ℕ} {x : Statement} {index : Term} {ls rs : List Spelt} {k : Option TokenKind} {t : Token} (id : ℕ) → IsNameToken id t → SpellsIndex index v ls
       → is_fixed fixed.LeftSquare (first rs k) ≡ false → Reading limit (st.changed limit (written_at (name_at id t.place) (Some index))) v x v rs k
       → Reading limit (st.simple limit) v x v (at t v ∷ (ls ++ rs)) k
   index_changed {v} {x} {index} {ls} {rs} {k} id h s b r =
@@ -322,7 +322,7 @@ module _ (limit : ℕ) where
   ActsFirst [] = ⊥
   ActsFirst (s ∷ ls) = acts_first (Some s.token.kind) ≡ true
 
-  target_first : {v : ℕ} {x : Written} {ls : List Spelt} → Targets x v ls → (rs : List Spelt) → ActsFirst (ls ++ rs)
+  target_first : {v : ℕ} {x : PlainTarget} {ls : List Spelt} → Targets x v ls → (rs : List Spelt) → ActsFirst (ls ++ rs)
   target_first (scalar id h) rs = rw h
   target_first (indexed id h s) rs = rw h
 

@@ -10,9 +10,9 @@ use Rattle.forec_tree.specs.declared.token.Word.TheVariants as word
 use Rattle.forec_tree.specs.declared.tree.Number.{Number}
 use Rattle.forec_tree.specs.Terms as plain
 use Rattle.forec_tree.specs.Terms.{Term, Declared, Statement, absent, present}
-use Rattle.forec_tree.specs.Spelling.{Spelt, at, tokens, IsMark, IsWord, IsName, Brackets, Passes, Whole, name_at, listed}
+use Rattle.forec_tree.specs.Spelling.{Spelt, at, tokens, IsMark, IsWord, IsNameToken, Brackets, SpellsArguments, Whole, name_at, listed}
 use Rattle.forec_tree.specs.Parts.{in_order, Launch, Calls, Blocks, launched, Head}
-use Rattle.forec_tree.specs.SpelledStatements.{Separated, Declares, bare, valued, array, valued_array, Simple, Bounds, Heads, Optional, there, missing, Says, nothing, acts, group, declares, if_alone, if_else, loops, counts, pauses, forks, aborts, gives_back, Block, block, Lists, no_more, and_more, forked, Starting, bare_call, call, blocked, Launches, last_branch, next_branch}
+use Rattle.forec_tree.specs.SpelledStatements.{Separated, Declares, bare, valued, array, valued_array, Simple, SpellsBound, Heads, Optional, there, missing, SpellsStatement, nothing, acts, group, declares, if_alone, if_else, loops, counts, pauses, forks, aborts, gives_back, Block, block, SpellsStatements, no_more, and_more, forked, Starting, bare_call, call, blocked, SpellsLaunches, last_branch, next_branch}
 use Rattle.expr_parser.specs.declared.fixed.Fixed.{Fixed}
 use Rattle.expr_parser.specs.declared.fixed.Fixed.TheVariants as fixed
 use Rattle.forec_parser.specs.declared.meaning.Sort.{Sort}
@@ -21,7 +21,7 @@ use Rattle.expr_parser.specs.Input.{input, Parser, kind_ahead}
 use Rattle.expr_parser.specs.Meaning.{is_fixed}
 use Rattle.forec_parser.specs.Meaning.{sort_of, ends_body}
 use Rattle.forec_parser.specs.Statements as st
-use Rattle.forec_parser.specs.Statements.{stmt}
+use Rattle.forec_parser.specs.Statements.{read_statement}
 use Rattle.expr_parser.proofs.Spans.{tokens_append, first, first-is}
 use Rattle.expr_parser.proofs.Closers.{fixed-kind}
 use Rattle.expr_parser.proofs.Exact.{Exact, Any, by_reading, Part, part, both, mapped, inside, done, on, off, Reading, reading, Follows, comes, follow_then, bind, reads_by, read_at}
@@ -59,7 +59,7 @@ abort_first : {v : ℕ} {b : Bool} {ws : List Spelt} (rs : List Spelt) → Optio
 abort_first rs (there h) r = rw h
 abort_first rs missing r = r
 
-pub says_begin : {x : Statement} {o : Bool} {v u : ℕ} {ls : List Spelt} → Says x o v u ls → SaysFirst ls
+pub says_begin : {x : Statement} {o : Bool} {v u : ℕ} {ls : List Spelt} → SpellsStatement x o v u ls → SaysFirst ls
 says_begin (nothing h) = rw h
 says_begin (acts semicolon {ls = ls} s m) = acts_append 0 ls _ (simple_first 0 s)
 says_begin (group b) = block_first b
@@ -116,41 +116,41 @@ says_filled (s ∷ ls) h = tt
 
 module _ (limit : ℕ) where
   abbrev pub IsRead : Statement → Bool → ℕ → ℕ → List Spelt → Type 0
-  IsRead x o v u ls = (d : ℕ) (k : Option TokenKind) → v ≤ limit → u ≤ limit → limit < d + v → Calm o k → Reading limit (stmt limit d) v x v ls k
+  IsRead x o v u ls = (d : ℕ) (k : Option TokenKind) → v ≤ limit → u ≤ limit → limit < d + v → Calm o k → Reading limit (read_statement limit d) v x v ls k
 
   abbrev pub AreRead : List Statement → ℕ → List Spelt → Type 0
-  AreRead xs v ls = (d : ℕ) (k : Option TokenKind) → v ≤ limit → limit < d + v → ends_body k ≡ true → Reading limit (st.body limit (stmt limit d)) v xs v ls k
+  AreRead xs v ls = (d : ℕ) (k : Option TokenKind) → v ≤ limit → limit < d + v → ends_body k ≡ true → Reading limit (st.body limit (read_statement limit d)) v xs v ls k
 
   -- over any depth that is not used up
   deep : {x : Statement} {v : ℕ} {ls : List Spelt} {k : Option TokenKind} (d : ℕ) → v ≤ limit → limit < d + v
-      → ((e : ℕ) → limit ≤ e + v → Reading limit (st.one limit (stmt limit e)) v x v ls k) → Reading limit (stmt limit d) v x v ls k
-  unfolding stmt
+      → ((e : ℕ) → limit ≤ e + v → Reading limit (st.one_statement limit (read_statement limit e)) v x v ls k) → Reading limit (read_statement limit d) v x v ls k
+  unfolding read_statement
   deep zero small far f = absurd (omega arith)
   deep (suc e) small far f = f e (omega arith)
 
   -- by what it begins with
-  one_is : (p : Parser Statement) {x : Statement} {v : ℕ} {ls : List Spelt} {k : Option TokenKind} (s : Sort) → sort_of (first ls k) ≡ s → Reading limit (st.one_by limit p s) v x v ls k → Reading limit (st.one limit p) v x v ls k
-  unfolding st.one
+  one_is : (p : Parser Statement) {x : Statement} {v : ℕ} {ls : List Spelt} {k : Option TokenKind} (s : Sort) → sort_of (first ls k) ≡ s → Reading limit (st.one_by limit p s) v x v ls k → Reading limit (st.one_statement limit p) v x v ls k
+  unfolding st.one_statement
   one_is p {x} {v} {ls} {k} s h r = reading (λ rest e.
       let c : sort_of (kind_ahead (tokens ls ++ rest)) ≡ s = ap sort_of (first-is ls rest ∙ ap (first ls) e) ∙ h in
       rw c (read_at r rest e))
 
   -- ---- lists
 
-  a_none : {v : ℕ} (d n : ℕ) (found : List Statement) (rest : List Token) → ends_body (kind_ahead rest) ≡ true → st.body_from limit (stmt limit d) n found (input rest v) ≡ Ok (found ++ [], input rest v)
+  a_none : {v : ℕ} (d n : ℕ) (found : List Statement) (rest : List Token) → ends_body (kind_ahead rest) ≡ true → st.body_from limit (read_statement limit d) n found (input rest v) ≡ Ok (found ++ [], input rest v)
   unfolding st.body_from
   a_none {v} d zero found rest h = rw h (ap (λ z. Ok (z, input rest v)) (sym (append-nil found)))
   a_none {v} d (suc n) found rest h = rw h (ap (λ z. Ok (z, input rest v)) (sym (append-nil found)))
 
   a_step : {v : ℕ} {x : Statement} (xs : List Statement) (ls rs : List Spelt) (d n : ℕ) (found : List Statement) (rest : List Token) → SaysFirst ls
-      → Follows limit x v ls (tokens rs ++ rest) (stmt limit d (input (tokens ls ++ (tokens rs ++ rest)) v))
-      → Follows limit ((found ++ x ∷ []) ++ xs) v rs rest (st.body_from limit (stmt limit d) n (found ++ x ∷ []) (input (tokens rs ++ rest) v))
-      → Follows limit (found ++ (x ∷ xs)) v (ls ++ rs) rest (st.body_from limit (stmt limit d) (suc n) found (input (tokens ls ++ (tokens rs ++ rest)) v))
+      → Follows limit x v ls (tokens rs ++ rest) (read_statement limit d (input (tokens ls ++ (tokens rs ++ rest)) v))
+      → Follows limit ((found ++ x ∷ []) ++ xs) v rs rest (st.body_from limit (read_statement limit d) n (found ++ x ∷ []) (input (tokens rs ++ rest) v))
+      → Follows limit (found ++ (x ∷ xs)) v (ls ++ rs) rest (st.body_from limit (read_statement limit d) (suc n) found (input (tokens ls ++ (tokens rs ++ rest)) v))
   unfolding st.body_from
   a_step {v} {x} xs ls rs d n found rest h r more =
       let c : ends_body (kind_ahead (tokens ls ++ (tokens rs ++ rest))) ≡ false = begins ls h in
-      let R : List Statement → Type 0 = λ z. Follows limit z v rs rest (st.body_from limit (stmt limit d) n (found ++ x ∷ []) (input (tokens rs ++ rest) v)) in
-      rw c (follow_then rs (λ x. st.body_from limit (stmt limit d) n (found ++ x ∷ [])) r (subst R (append_assoc found (x ∷ []) xs) more))
+      let R : List Statement → Type 0 = λ z. Follows limit z v rs rest (st.body_from limit (read_statement limit d) n (found ++ x ∷ []) (input (tokens rs ++ rest) v)) in
+      rw c (follow_then rs (λ x. st.body_from limit (read_statement limit d) n (found ++ x ∷ [])) r (subst R (append_assoc found (x ∷ []) xs) more))
     where
       begins : (ls : List Spelt) → SaysFirst ls → ends_body (kind_ahead (tokens ls ++ (tokens rs ++ rest))) ≡ false
       begins [] h = absurd h
@@ -158,9 +158,9 @@ module _ (limit : ℕ) where
 
   abbrev Listing : List Statement → ℕ → List Spelt → Type 0
   Listing xs v ls = (d n : ℕ) (found : List Statement) (rest : List Token) → v ≤ limit → limit < d + v → ends_body (kind_ahead rest) ≡ true → length (tokens ls ++ rest) ≤ n
-      → Follows limit (found ++ xs) v ls rest (st.body_from limit (stmt limit d) n found (input (tokens ls ++ rest) v))
+      → Follows limit (found ++ xs) v ls rest (st.body_from limit (read_statement limit d) n found (input (tokens ls ++ rest) v))
 
-  next_calm : (xs : List Statement) {v : ℕ} (rs : List Spelt) (k : Option TokenKind) → Lists xs v rs → ends_body k ≡ true → is_fixed fixed.Else (first rs k) ≡ false
+  next_calm : (xs : List Statement) {v : ℕ} (rs : List Spelt) (k : Option TokenKind) → SpellsStatements xs v rs → ends_body k ≡ true → is_fixed fixed.Else (first rs k) ≡ false
   next_calm [] rs k no_more h = ends_else k h
   next_calm (x ∷ xs) rs k (and_more {ls = ls} {rs = more} a b) h = of ls more (says_begin a)
     where
@@ -178,7 +178,7 @@ module _ (limit : ℕ) where
       let tail = tokens rs ++ rest in
       let same : tokens (ls ++ rs) ++ rest ≡ tokens ls ++ tail = tokens_append ls rs rest in
       let room : length (tokens ls ++ tail) ≤ suc n = rw same at le in
-      let a : Follows limit x v ls tail (stmt limit d (input (tokens ls ++ tail) v)) = read_at (rx d (first rs (kind_ahead rest)) small small far (λ _. calm (kind_ahead rest) hr)) tail (first-is rs rest) in
+      let a : Follows limit x v ls tail (read_statement limit d (input (tokens ls ++ tail) v)) = read_at (rx d (first rs (kind_ahead rest)) small small far (λ _. calm (kind_ahead rest) hr)) tail (first-is rs rest) in
       let b = rxs d n (found ++ x ∷ []) rest small far hr (omega (arith, filled-long ls tail (says_filled ls begin))) in
       rw same (a_step xs ls rs d n found rest begin a b)
 
@@ -190,37 +190,37 @@ module _ (limit : ℕ) where
 
   abbrev BlockReads : Place → List Statement → ℕ → ℕ → List Spelt → Type 0
   BlockReads place xs v u ls = (d : ℕ) (k : Option TokenKind) (g : ℕ → ℕ) → g v ≡ u → limit ≤ d + v
-      → BracesBy limit (stmt limit d) (sound_stmt limit d) g (Reading limit (st.body limit (stmt limit d))) v (place, xs) v ls k
+      → BracesBy limit (read_statement limit d) (sound_stmt limit d) g (Reading limit (st.body limit (read_statement limit d))) v (place, xs) v ls k
 
   b_block : {v u : ℕ} {left : Token} (right : Token) {xs : List Statement} {ls : List Spelt} → IsMark mark.LeftCurly left → AreRead xs (v + 1) ls → IsMark mark.RightCurly right
       → BlockReads left.place xs v u (at left (v + 1) ∷ (ls ++ (at right u ∷ [])))
   b_block {v} {u} {left} right {xs} {ls} hl b hr d k g e far =
-      let R : ℕ → Type 0 = λ z. BracesBy limit (stmt limit d) (sound_stmt limit d) g (Reading limit (st.body limit (stmt limit d))) v (left.place, xs) v (at left (v + 1) ∷ (ls ++ (at right z ∷ []))) k in
+      let R : ℕ → Type 0 = λ z. BracesBy limit (read_statement limit d) (sound_stmt limit d) g (Reading limit (st.body limit (read_statement limit d))) v (left.place, xs) v (at left (v + 1) ∷ (ls ++ (at right z ∷ []))) k in
       subst R e (encloses right hl (λ small. b d (Some right.kind) small (omega arith) (curly_body right hr)) hr)
 
-  pub here_reads : {v : ℕ} {place : Place} {xs : List Statement} {ls : List Spelt} {k : Option TokenKind} (d : ℕ) → Block place xs v v ls → BlockReads place xs v v ls → limit ≤ d + v → Reading limit (st.block limit (stmt limit d)) v (place, xs) v ls k
-  here_reads {k = k} d b r far = reads_by (a_block limit (stmt limit d) (sound_stmt limit d) (λ v. v) (λ v h. h)) (r d k (λ v. v) refl far)
+  pub here_reads : {v : ℕ} {place : Place} {xs : List Statement} {ls : List Spelt} {k : Option TokenKind} (d : ℕ) → Block place xs v v ls → BlockReads place xs v v ls → limit ≤ d + v → Reading limit (st.block limit (read_statement limit d)) v (place, xs) v ls k
+  here_reads {k = k} d b r far = reads_by (a_block limit (read_statement limit d) (sound_stmt limit d) (λ v. v) (λ v h. h)) (r d k (λ v. v) refl far)
 
   abbrev LaunchReads : Launch → ℕ → List Spelt → Type 0
-  LaunchReads x v ls = (d : ℕ) (k : Option TokenKind) → limit ≤ d + v → ends k ≡ true → Reading limit (st.launch limit (stmt limit d)) v x v ls k
+  LaunchReads x v ls = (d : ℕ) (k : Option TokenKind) → limit ≤ d + v → ends k ≡ true → Reading limit (st.launch limit (read_statement limit d)) v x v ls k
 
-  called_reads : (d : ℕ) (xs : List Term) {v id : ℕ} {t : Token} {ls : List Spelt} {k : Option TokenKind} → IsName id t → Reading limit (st.called limit) v (Calls (name_at id t.place) (listed xs)) v (at t v ∷ ls) k
-      → Reading limit (st.launch limit (stmt limit d)) v (Calls (name_at id t.place) (listed xs)) v (at t v ∷ ls) k
-  called_reads d xs {t = t} h r = reads_by (a_launch limit (stmt limit d) (sound_stmt limit d)) (off (rw h) r)
+  called_reads : (d : ℕ) (xs : List Term) {v id : ℕ} {t : Token} {ls : List Spelt} {k : Option TokenKind} → IsNameToken id t → Reading limit (st.call_launch limit) v (Calls (name_at id t.place) (listed xs)) v (at t v ∷ ls) k
+      → Reading limit (st.launch limit (read_statement limit d)) v (Calls (name_at id t.place) (listed xs)) v (at t v ∷ ls) k
+  called_reads d xs {t = t} h r = reads_by (a_launch limit (read_statement limit d) (sound_stmt limit d)) (off (rw h) r)
 
-  l_bare : {v : ℕ} {t : Token} (id : ℕ) → IsName id t → LaunchReads (Calls (name_at id t.place) (listed [])) v (at t v ∷ [])
+  l_bare : {v : ℕ} {t : Token} (id : ℕ) → IsNameToken id t → LaunchReads (Calls (name_at id t.place) (listed [])) v (at t v ∷ [])
   l_bare id h d k far e = called_reads d [] h (reads_by (a_called limit) (both (part (name_is id h) tt) (mapped (off (ends_round k e) done))))
 
-  l_call : {v : ℕ} {t : Token} {args : List Term} {ls : List Spelt} (id : ℕ) → IsName id t → Passes args v ls → LaunchReads (Calls (name_at id t.place) (listed args)) v (at t v ∷ ls)
+  l_call : {v : ℕ} {t : Token} {args : List Term} {ls : List Spelt} (id : ℕ) → IsNameToken id t → SpellsArguments args v ls → LaunchReads (Calls (name_at id t.place) (listed args)) v (at t v ∷ ls)
   l_call {args = args} id h s d k far e =
       called_reads d args h (reads_by (a_called limit) (both (part (name_is id h) tt) (mapped (on (ap (is_fixed fixed.LeftRound) (passes_first s k)) (passed_reads limit s)))))
 
   l_block : {v : ℕ} {place : Place} {xs : List Statement} {ls : List Spelt} → Block place xs v v ls → BlockReads place xs v v ls → LaunchReads (Blocks place (in_order xs)) v ls
   l_block b r d k far e =
-      reads_by (a_launch limit (stmt limit d) (sound_stmt limit d)) (on (ap (is_fixed fixed.LeftCurly) (block_curly b k)) (mapped (here_reads d b r far)))
+      reads_by (a_launch limit (read_statement limit d) (sound_stmt limit d)) (on (ap (is_fixed fixed.LeftCurly) (block_curly b k)) (mapped (here_reads d b r far)))
 
   abbrev LaunchesRead : List Launch → ℕ → List Spelt → Type 0
-  LaunchesRead xs v ls = (d : ℕ) (k : Option TokenKind) → limit ≤ d + v → ends k ≡ true → is_fixed fixed.Comma k ≡ false → Listed (Full (Reading limit (st.launch limit (stmt limit d)))) v xs v ls k
+  LaunchesRead xs v ls = (d : ℕ) (k : Option TokenKind) → limit ≤ d + v → ends k ≡ true → is_fixed fixed.Comma k ≡ false → Listed (Full (Reading limit (st.launch limit (read_statement limit d)))) v xs v ls k
 
   l_last : {v : ℕ} {x : Launch} {ls : List Spelt} → Starting x v ls → LaunchReads x v ls → LaunchesRead (x ∷ []) v ls
   l_last s r d k far e n = end_of_list (full (r d k far e) (starting_filled s)) n
@@ -232,68 +232,68 @@ module _ (limit : ℕ) where
   -- ---- statements
 
   r_nothing : {v u : ℕ} {t : Token} → IsMark mark.Semicolon t → IsRead (plain.Nothing t.place) false v u (at t u ∷ [])
-  r_nothing h d k small low far calm = deep d small far (λ e m. one_is (stmt limit e) sort.Empty (rw h) (reads_by (x_empty limit (stmt limit e) (sound_stmt limit e) _ low) (mapped (last h))))
+  r_nothing h d k small low far calm = deep d small far (λ e m. one_is (read_statement limit e) sort.Empty (rw h) (reads_by (x_empty limit (read_statement limit e) (sound_stmt limit e) _ low) (mapped (last h))))
 
   r_acts : {v u : ℕ} (semicolon : Token) {x : Statement} {ls : List Spelt} → Simple x v ls → IsMark mark.Semicolon semicolon → IsRead x false v u (ls ++ (at semicolon u ∷ []))
   r_acts {v} {u} semicolon {x} {ls} s h d k small low far calm = deep d small far (λ e m.
-      one_is (stmt limit e) sort.Simple (acts_sort limit ls (at semicolon u ∷ []) k (simple_first limit s))
-      (reads_by (x_acting limit (stmt limit e) (sound_stmt limit e) _ low) (both (simple_reads limit s small (semicolon_ends semicolon h)) (mapped (last h)))))
+      one_is (read_statement limit e) sort.Simple (acts_sort limit ls (at semicolon u ∷ []) k (simple_first limit s))
+      (reads_by (x_acting limit (read_statement limit e) (sound_stmt limit e) _ low) (both (simple_reads limit s small (semicolon_ends semicolon h)) (mapped (last h)))))
 
   r_group : {v u : ℕ} {place : Place} {xs : List Statement} {ls : List Spelt} → Block place xs v u ls → BlockReads place xs v u ls → IsRead (plain.Group place (in_order xs)) false v u ls
   r_group {u = u} b r d k small low far calm = deep d small far (λ e m.
-      one_is (stmt limit e) sort.Curly (ap sort_of (block_curly b k)) (reads_by (x_group limit (stmt limit e) (sound_stmt limit e) u low) (mapped (r e k (λ _. u) refl m))))
+      one_is (read_statement limit e) sort.Curly (ap sort_of (block_curly b k)) (reads_by (x_group limit (read_statement limit e) (sound_stmt limit e) u low) (mapped (r e k (λ _. u) refl m))))
 
   r_declares : {v u : ℕ} {t : Token} (semicolon : Token) {locals : List Declared} {ls : List Spelt} → IsWord word.Int t → Separated Declares locals v ls → IsMark mark.Semicolon semicolon
       → IsRead (plain.Declare t.place locals) false v u (at t v ∷ (ls ++ (at semicolon u ∷ [])))
   r_declares semicolon h s n d k small low far calm = deep d small far (λ e m.
-      one_is (stmt limit e) sort.Declares (rw h) (reads_by (x_declaring limit (stmt limit e) (sound_stmt limit e) _ low)
+      one_is (read_statement limit e) sort.Declares (rw h) (reads_by (x_declaring limit (read_statement limit e) (sound_stmt limit e) _ low)
       (both (tok h) (both (list_reads (λ x ls k q z. local_reads limit q small z) (λ x ls q. declares_filled x ls q) s (semicolon_ends semicolon n) (semicolon_comma semicolon n)) (mapped (last n))))))
 
   r_alone : {v u : ℕ} {o : Bool} {t : Token} {test : Term} {x : Statement} {ls ms : List Spelt} → IsWord word.If t → Brackets test (v + 1) ls → IsRead x o (v + 1) u ms
       → IsRead (plain.If t.place test x absent) true v u (at t (v + 1) ∷ (ls ++ ms))
   r_alone {v} {u} {o} {t} {test} {x} {ls} {ms} h b r d k small low far calm = deep d small far (λ e m.
-      let R : List Spelt → Type 0 = λ z. Reading limit (st.if_statement limit (stmt limit e)) v (plain.If t.place test x absent) v (at t (v + 1) ∷ (ls ++ z)) k in
-      let done_so : R (ms ++ []) = reads_by (x_branching limit (stmt limit e) (sound_stmt limit e) u low)
+      let R : List Spelt → Type 0 = λ z. Reading limit (st.if_statement limit (read_statement limit e)) v (plain.If t.place test x absent) v (at t (v + 1) ∷ (ls ++ z)) k in
+      let done_so : R (ms ++ []) = reads_by (x_branching limit (read_statement limit e) (sound_stmt limit e) u low)
       (inside (over h (λ small. both (bracketed_reads limit b) (both (r e k small low (omega arith) (λ _. calm refl)) (off (calm refl) done))))) in
-      one_is (stmt limit e) sort.If (rw h) (subst R (append-nil ms) done_so))
+      one_is (read_statement limit e) sort.If (rw h) (subst R (append-nil ms) done_so))
 
   r_else : {v u : ℕ} {o : Bool} {t : Token} (other : Token) {test : Term} {x y : Statement} {ls ms rs : List Spelt} → IsWord word.If t → Brackets test (v + 1) ls → IsRead x false (v + 1) (v + 1) ms
       → IsWord word.Else other → IsRead y o (v + 1 + 1) u rs
       → IsRead (plain.If t.place test x (present y)) o v u (at t (v + 1) ∷ (ls ++ (ms ++ (at other (v + 1 + 1) ∷ rs))))
   r_else {v} {u} {o} {t} other {test} {x} {y} {ls} {ms} {rs} h b r n s d k small low far calm = deep d small far (λ e m.
-      one_is (stmt limit e) sort.If (rw h) (reads_by (x_branching limit (stmt limit e) (sound_stmt limit e) u low)
+      one_is (read_statement limit e) sort.If (rw h) (reads_by (x_branching limit (read_statement limit e) (sound_stmt limit e) u low)
       (inside (over h (λ small. both (bracketed_reads limit b) (both (r e (Some other.kind) small small (omega arith) (λ z. absurd (cc)))
       (on (is_so fixed.Else other n) (over n (λ smaller. mapped (s e k smaller low (omega arith) calm))))))))))
 
-  r_loops : {v u : ℕ} {o : Bool} {t : Token} {test : Term} {bound : Option Number} {x : Statement} {ls ms rs : List Spelt} → IsWord word.While t → Brackets test (v + 1) ls → Bounds bound (v + 1) ms
+  r_loops : {v u : ℕ} {o : Bool} {t : Token} {test : Term} {bound : Option Number} {x : Statement} {ls ms rs : List Spelt} → IsWord word.While t → Brackets test (v + 1) ls → SpellsBound bound (v + 1) ms
       → SaysFirst rs → IsRead x o (v + 1) u rs → IsRead (plain.While t.place test bound x) o v u (at t (v + 1) ∷ (ls ++ (ms ++ rs)))
   r_loops {rs = rs} h b n f r d k small low far calm = deep d small far (λ e m.
-      one_is (stmt limit e) sort.While (rw h) (reads_by (x_looping limit (stmt limit e) (sound_stmt limit e) _ low)
+      one_is (read_statement limit e) sort.While (rw h) (reads_by (x_looping limit (read_statement limit e) (sound_stmt limit e) _ low)
       (inside (over h (λ small. both (bracketed_reads limit b) (both (bound_reads limit n (says_then fixed.Hash says_hash rs k f)) (mapped (r e k small low (omega arith) calm))))))))
 
-  r_counts : {v u : ℕ} {o : Bool} {t : Token} {head : Head} {bound : Option Number} {x : Statement} {ls ms rs : List Spelt} → IsWord word.For t → Heads head (v + 1) ls → Bounds bound (v + 1) ms
+  r_counts : {v u : ℕ} {o : Bool} {t : Token} {head : Head} {bound : Option Number} {x : Statement} {ls ms rs : List Spelt} → IsWord word.For t → Heads head (v + 1) ls → SpellsBound bound (v + 1) ms
       → SaysFirst rs → IsRead x o (v + 1) u rs → IsRead (plain.For t.place head.start head.test head.step bound x) o v u (at t (v + 1) ∷ (ls ++ (ms ++ rs)))
   r_counts {rs = rs} h b n f r d k small low far calm = deep d small far (λ e m.
-      one_is (stmt limit e) sort.For (rw h) (reads_by (x_counting limit (stmt limit e) (sound_stmt limit e) _ low)
+      one_is (read_statement limit e) sort.For (rw h) (reads_by (x_counting limit (read_statement limit e) (sound_stmt limit e) _ low)
       (inside (over h (λ small. both (head_reads limit b) (both (bound_reads limit n (says_then fixed.Hash says_hash rs k f)) (mapped (r e k small low (omega arith) calm))))))))
 
   r_pauses : {v u : ℕ} {t semicolon : Token} → IsWord word.Pause t → IsMark mark.Semicolon semicolon → IsRead (plain.Pause t.place) false v u (at t v ∷ at semicolon u ∷ [])
   r_pauses h n d k small low far calm = deep d small far (λ e m.
-      one_is (stmt limit e) sort.Pause (rw h) (reads_by (x_pausing limit (stmt limit e) (sound_stmt limit e) _ low) (both (tok h) (mapped (last n)))))
+      one_is (read_statement limit e) sort.Pause (rw h) (reads_by (x_pausing limit (read_statement limit e) (sound_stmt limit e) _ low) (both (tok h) (mapped (last n)))))
 
   r_forks : {v u : ℕ} {t left : Token} (right semicolon : Token) {branches : List Launch} {ls : List Spelt} → IsWord word.Par t → IsMark mark.LeftRound left → LaunchesRead branches (v + 1) ls
       → IsMark mark.RightRound right → IsMark mark.Semicolon semicolon
       → IsRead (plain.Par t.place (launched branches)) false v u (at t v ∷ (at left (v + 1) ∷ (ls ++ (at right v ∷ [])) ++ (at semicolon u ∷ [])))
   r_forks right semicolon h hl r hr n d k small low far calm = deep d small far (λ e m.
-      one_is (stmt limit e) sort.Par (rw h) (reads_by (x_par_statement limit (stmt limit e) (sound_stmt limit e) _ low)
-      (both (tok h) (both (encloses right hl (λ small. reads_by (a_launches limit (stmt limit e) (sound_stmt limit e)) (r e (Some right.kind) (omega arith) (round_ends right hr) (round_comma right hr))) hr) (mapped (last n))))))
+      one_is (read_statement limit e) sort.Par (rw h) (reads_by (x_par_statement limit (read_statement limit e) (sound_stmt limit e) _ low)
+      (both (tok h) (both (encloses right hl (λ small. reads_by (a_launches limit (read_statement limit e) (sound_stmt limit e)) (r e (Some right.kind) (omega arith) (round_ends right hr) (round_comma right hr))) hr) (mapped (last n))))))
 
   aborting_reads : {v u : ℕ} {weak immediate : Bool} {place : Place} (t when semicolon : Token) {test : Term} {body : List Statement} {ls is ms : List Spelt} (e : ℕ) (k : Option TokenKind) → u ≤ limit → limit ≤ e + v
       → IsWord word.Abort t → Block place body (v + 1) (v + 1) ls → BlockReads place body (v + 1) (v + 1) ls → IsWord word.When when → Optional word.Immediate immediate (v + 1) is
       → Brackets test (v + 1) ms → IsMark mark.Semicolon semicolon
-      → Reading limit (st.abort_statement limit (stmt limit e) weak) v (plain.Abort t.place weak immediate test (in_order body)) v (at t (v + 1) ∷ (ls ++ (at when (v + 1) ∷ (is ++ (ms ++ (at semicolon u ∷ [])))))) k
+      → Reading limit (st.abort_statement limit (read_statement limit e) weak) v (plain.Abort t.place weak immediate test (in_order body)) v (at t (v + 1) ∷ (ls ++ (at when (v + 1) ∷ (is ++ (ms ++ (at semicolon u ∷ [])))))) k
   aborting_reads {weak = weak} t when semicolon {ms = ms} e k low m h b r n f c q =
-      reads_by (x_abort_statement limit (stmt limit e) (sound_stmt limit e) _ low weak)
+      reads_by (x_abort_statement limit (read_statement limit e) (sound_stmt limit e) _ low weak)
       (inside (over h (λ small. both (here_reads e b r (omega arith)) (both (tok n)
       (both (flag_reads limit f (ap (is_fixed fixed.Immediate) (first_then ms _ k ∙ brackets_first c _))) (both (bracketed_reads limit c) (mapped (last q))))))))
 
@@ -302,24 +302,24 @@ module _ (limit : ℕ) where
       → Brackets test (v + 1) ms → IsMark mark.Semicolon semicolon
       → IsRead (plain.Abort t.place true immediate test (in_order body)) false v u (at w v ∷ at t (v + 1) ∷ (ls ++ (at when (v + 1) ∷ (is ++ (ms ++ (at semicolon u ∷ []))))))
   r_weak {u = u} t when semicolon hw h b r n f c q d k small low far calm = deep d small far (λ e m.
-      one_is (stmt limit e) sort.Weak (rw hw) (reads_by (bind (token limit fixed.Weak) (λ _. abort_statement_by e)) (both (tok hw) (aborting_reads t when semicolon e k low m h b r n f c q))))
+      one_is (read_statement limit e) sort.Weak (rw hw) (reads_by (bind (token limit fixed.Weak) (λ _. abort_statement_by e)) (both (tok hw) (aborting_reads t when semicolon e k low m h b r n f c q))))
     where
-      abort_statement_by : (e : ℕ) → Exact limit (st.abort_statement limit (stmt limit e) true) (Part Any (AbortRest limit (stmt limit e) (sound_stmt limit e) u low true)) (Reading limit (st.abort_statement limit (stmt limit e) true))
-      abort_statement_by e = by_reading (x_abort_statement limit (stmt limit e) (sound_stmt limit e) _ low true).sound
+      abort_statement_by : (e : ℕ) → Exact limit (st.abort_statement limit (read_statement limit e) true) (Part Any (AbortRest limit (read_statement limit e) (sound_stmt limit e) u low true)) (Reading limit (st.abort_statement limit (read_statement limit e) true))
+      abort_statement_by e = by_reading (x_abort_statement limit (read_statement limit e) (sound_stmt limit e) _ low true).sound
 
   r_abort : {v u : ℕ} {immediate : Bool} {place : Place} (t when semicolon : Token) {test : Term} {body : List Statement} {ls is ms : List Spelt}
       → IsWord word.Abort t → Block place body (v + 1) (v + 1) ls → BlockReads place body (v + 1) (v + 1) ls → IsWord word.When when → Optional word.Immediate immediate (v + 1) is
       → Brackets test (v + 1) ms → IsMark mark.Semicolon semicolon
       → IsRead (plain.Abort t.place false immediate test (in_order body)) false v u (at t (v + 1) ∷ (ls ++ (at when (v + 1) ∷ (is ++ (ms ++ (at semicolon u ∷ []))))))
-  r_abort t when semicolon h b r n f c q d k small low far calm = deep d small far (λ e m. one_is (stmt limit e) sort.Abort (rw h) (aborting_reads t when semicolon e k low m h b r n f c q))
+  r_abort t when semicolon h b r n f c q d k small low far calm = deep d small far (λ e m. one_is (read_statement limit e) sort.Abort (rw h) (aborting_reads t when semicolon e k low m h b r n f c q))
 
   r_gives : {v u : ℕ} {t : Token} (semicolon : Token) {value : Term} {ls : List Spelt} → IsWord word.Return t → Whole value v ls → IsMark mark.Semicolon semicolon
       → IsRead (plain.Return t.place value) false v u (at t v ∷ (ls ++ (at semicolon u ∷ [])))
   r_gives semicolon h s n d k small low far calm = deep d small far (λ e m.
-      one_is (stmt limit e) sort.Return (rw h) (reads_by (x_return_statement limit (stmt limit e) (sound_stmt limit e) _ low) (both (tok h) (both (value_reads limit s small (semicolon_ends semicolon n)) (mapped (last n))))))
+      one_is (read_statement limit e) sort.Return (rw h) (reads_by (x_return_statement limit (read_statement limit e) (sound_stmt limit e) _ low) (both (tok h) (both (value_reads limit s small (semicolon_ends semicolon n)) (mapped (last n))))))
 
   mutual
-    pub reads : {x : Statement} {o : Bool} {v u : ℕ} {ls : List Spelt} → Says x o v u ls → IsRead x o v u ls
+    pub reads : {x : Statement} {o : Bool} {v u : ℕ} {ls : List Spelt} → SpellsStatement x o v u ls → IsRead x o v u ls
     reads (nothing h) = r_nothing h
     reads (acts semicolon s h) = r_acts semicolon s h
     reads (group b) = r_group b (block_reads b)
@@ -334,7 +334,7 @@ module _ (limit : ℕ) where
     reads (aborts t when semicolon missing h b n f c q) = r_abort t when semicolon h b (block_reads b) n f c q
     reads (gives_back semicolon h s n) = r_gives semicolon h s n
 
-    pub listing : {xs : List Statement} {v : ℕ} {ls : List Spelt} → Lists xs v ls → Listing xs v ls
+    pub listing : {xs : List Statement} {v : ℕ} {ls : List Spelt} → SpellsStatements xs v ls → Listing xs v ls
     listing no_more = λ d n found rest small far h le. rw (a_none d n found rest h) comes
     listing (and_more {xs = xs} {ls = ls} {rs = rs} a b) = l_more ls rs (says_begin a) (reads a) (listing b) (λ k h. next_calm xs rs k b h)
 
@@ -346,6 +346,6 @@ module _ (limit : ℕ) where
     launch_reads (call id h s) = l_call id h s
     launch_reads (blocked b) = l_block b (block_reads b)
 
-    launches_read : {xs : List Launch} {v : ℕ} {ls : List Spelt} → Launches xs v ls → LaunchesRead xs v ls
+    launches_read : {xs : List Launch} {v : ℕ} {ls : List Spelt} → SpellsLaunches xs v ls → LaunchesRead xs v ls
     launches_read (last_branch s) = l_last s (launch_reads s)
     launches_read (next_branch comma s h rest) = l_next comma s (launch_reads s) h (launches_read rest)

@@ -9,9 +9,9 @@ use Rattle.forec_tree.specs.declared.token.Word.TheVariants as word
 use Rattle.forec_tree.specs.declared.tree.Number.{Number}
 use Rattle.forec_tree.specs.Terms as plain
 use Rattle.forec_tree.specs.Terms.{Term, Declared, Statement, absent, present}
-use Rattle.forec_tree.specs.Spelling.{Spelt, at, IsMark, IsWord, listed, Whole, Brackets, Passes}
+use Rattle.forec_tree.specs.Spelling.{Spelt, at, IsMark, IsWord, listed, Whole, Brackets, SpellsArguments}
 use Rattle.forec_tree.specs.Parts.{in_order, Launch, Calls, Blocks, launched, Head}
-use Rattle.forec_tree.specs.SpelledStatements.{Separated, Declares, Simple, Bounds, Heads, Optional, there, missing, Says, nothing, acts, group, declares, if_alone, if_else, loops, counts, pauses, forks, aborts, gives_back, Block, block, Lists, no_more, and_more, forked, Starting, bare_call, call, blocked, Launches, last_branch, next_branch}
+use Rattle.forec_tree.specs.SpelledStatements.{Separated, Declares, Simple, SpellsBound, Heads, Optional, there, missing, SpellsStatement, nothing, acts, group, declares, if_alone, if_else, loops, counts, pauses, forks, aborts, gives_back, Block, block, SpellsStatements, no_more, and_more, forked, Starting, bare_call, call, blocked, SpellsLaunches, last_branch, next_branch}
 use Rattle.expr_parser.specs.declared.fault.Fault.TheVariants.{Syntax}
 use Rattle.expr_parser.specs.declared.fixed.Fixed.TheVariants as fixed
 use Rattle.forec_parser.specs.declared.meaning.Sort.{Sort}
@@ -20,7 +20,7 @@ use Rattle.expr_parser.specs.Input.{Input, Parser, and_then, kind_ahead}
 use Rattle.expr_parser.specs.Meaning.{is_fixed}
 use Rattle.forec_parser.specs.Meaning.{sort_of, ends_body}
 use Rattle.forec_parser.specs.Statements as st
-use Rattle.forec_parser.specs.Statements.{stmt}
+use Rattle.forec_parser.specs.Statements.{read_statement}
 use Rattle.expr_parser.proofs.Spans.{step, ok_of, ok_pair}
 use Rattle.expr_parser.proofs.Exact.{Lang, Read, Exact, Bind, both, Map, mapped, Scoped, inside, Done, done, If, on, off, Choice, taken, left_out, Part, part, Reading, Any, bind, map_to, scope, convert, either, done_at, by_reading, then_read, read_as, reads_by, choose_by}
 use Rattle.expr_parser.proofs.Leaves.{Tok, tok, Last, last, Up, up, NameIs, name_is, token, last_token, a_name, EnclosedTo, Enclosed, Enclosing, EnclosedBy, Over, bind_up, between, enclosing, enclosing_to, Listed, end_of_list, next_of_list, full_commas, Full, is_so}
@@ -33,14 +33,14 @@ Calm o k = o ≡ true → is_fixed fixed.Else k ≡ false
 
 -- a statement after which the level is u
 pub data Said (u : ℕ) : ℕ → Statement → ℕ → List Spelt → Option TokenKind → Type 0 where
-  said : {v : ℕ} {o : Bool} {x : Statement} {ls : List Spelt} {k : Option TokenKind} → Says x o v u ls → Calm o k → Said u v x v ls k
+  said : {v : ℕ} {o : Bool} {x : Statement} {ls : List Spelt} {k : Option TokenKind} → SpellsStatement x o v u ls → Calm o k → Said u v x v ls k
 
 -- a statement after which the level is that before it
 pub data SaidHere : ℕ → Statement → ℕ → List Spelt → Option TokenKind → Type 0 where
-  said_here : {v : ℕ} {o : Bool} {x : Statement} {ls : List Spelt} {k : Option TokenKind} → Says x o v v ls → Calm o k → SaidHere v x v ls k
+  said_here : {v : ℕ} {o : Bool} {x : Statement} {ls : List Spelt} {k : Option TokenKind} → SpellsStatement x o v v ls → Calm o k → SaidHere v x v ls k
 
 pub data Bodied : ℕ → List Statement → ℕ → List Spelt → Option TokenKind → Type 0 where
-  bodied : {v : ℕ} {xs : List Statement} {ls : List Spelt} {k : Option TokenKind} → Lists xs v ls → Bodied v xs v ls k
+  bodied : {v : ℕ} {xs : List Statement} {ls : List Spelt} {k : Option TokenKind} → SpellsStatements xs v ls → Bodied v xs v ls k
 
 shut : (o : Bool) (k : Option TokenKind) → Calm o k → is_fixed fixed.Else k ≡ true → o ≡ false
 shut true k f h = absurd (let e = f refl in cc)
@@ -49,12 +49,12 @@ shut false k f h = refl
 pub open_never : (k : Option TokenKind) → Calm false k
 open_never k h = absurd (cc)
 
-shut_says : {x : Statement} {v u : ℕ} {ls : List Spelt} (o : Bool) → o ≡ false → Says x o v u ls → Says x false v u ls
-shut_says {x} {v} {u} {ls} o e s = let R : Bool → Type 0 = λ q. Says x q v u ls in subst R e s
+shut_says : {x : Statement} {v u : ℕ} {ls : List Spelt} (o : Bool) → o ≡ false → SpellsStatement x o v u ls → SpellsStatement x false v u ls
+shut_says {x} {v} {u} {ls} o e s = let R : Bool → Type 0 = λ q. SpellsStatement x q v u ls in subst R e s
 
 -- a statement that no `else` belongs to
 data Shut : ℕ → Statement → ℕ → List Spelt → Type 0 where
-  shut_here : {v : ℕ} {x : Statement} {ls : List Spelt} → Says x false v v ls → Shut v x v ls
+  shut_here : {v : ℕ} {x : Statement} {ls : List Spelt} → SpellsStatement x false v v ls → Shut v x v ls
 
 closed_here : {v w : ℕ} {x : Statement} {ls : List Spelt} (k : Option TokenKind) → SaidHere v x w ls k → is_fixed fixed.Else k ≡ true → Shut v x w ls
 closed_here k (said_here {o = o} s calm) e = shut_here (shut_says o (shut o k calm e) s)
@@ -66,11 +66,11 @@ branch_shut h b (shut_here s) (both (up m) (mapped (said z d))) = said (if_else 
 abbrev pub pair_of : Token → List Statement → Place × List Statement
 pair_of t xs = (t.place, xs)
 
-more_of : {v w : ℕ} {x : Launch} {xs : List Launch} {ls rs : List Spelt} {k : Option TokenKind} (comma : Token) → Starting x v ls → IsMark mark.Comma comma → Part Any Launches v xs w rs k
-    → Part Any Launches v (x ∷ xs) w (ls ++ (at comma v ∷ rs)) k
+more_of : {v w : ℕ} {x : Launch} {xs : List Launch} {ls rs : List Spelt} {k : Option TokenKind} (comma : Token) → Starting x v ls → IsMark mark.Comma comma → Part Any SpellsLaunches v xs w rs k
+    → Part Any SpellsLaunches v (x ∷ xs) w (ls ++ (at comma v ∷ rs)) k
 more_of comma s h (part r c) = part (next_branch comma s h r) tt
 
-pub launches_in : {v w : ℕ} {xs : List Launch} {ls : List Spelt} {k : Option TokenKind} → Listed (Part Any Starting) v xs w ls k → Part Any Launches v xs w ls k
+pub launches_in : {v w : ℕ} {xs : List Launch} {ls : List Spelt} {k : Option TokenKind} → Listed (Part Any Starting) v xs w ls k → Part Any SpellsLaunches v xs w ls k
 launches_in (end_of_list (part s c) e) = part (last_branch s) tt
 launches_in (next_of_list comma (part s c) h rest) = more_of comma s h (launches_in rest)
 
@@ -90,22 +90,22 @@ module _ (limit : ℕ) where
   flag_reads (there {t = t} h) n = reads_by a_flag (on (is_so fixed.Immediate t h) (mapped (tok h)))
   flag_reads missing n = reads_by a_flag (off n done)
 
-  pub a_maybe_passed : Exact limit (st.maybe_passed limit) (If fixed.LeftRound (Part Any Passes) (Done [])) (If fixed.LeftRound (Reading limit (st.passed limit)) (Done []))
+  pub a_maybe_passed : Exact limit (st.maybe_passed limit) (If fixed.LeftRound (Part Any SpellsArguments) (Done [])) (If fixed.LeftRound (Reading limit (st.passed_expressions limit)) (Done []))
   unfolding st.maybe_passed
   a_maybe_passed = either fixed.LeftRound (a_passed limit) (done_at [])
 
   abbrev Called : Lang (List Term) → Lang Launch
   Called P = Bind (Part Any NameIs) (λ n. Map (λ args. Calls n (listed args)) (If fixed.LeftRound P (Done [])))
 
-  pub called_of : (v w : ℕ) (x : Launch) (ls : List Spelt) (k : Option TokenKind) → Called (Part Any Passes) v x w ls k → Part Any Starting v x w ls k
+  pub called_of : (v w : ℕ) (x : Launch) (ls : List Spelt) (k : Option TokenKind) → Called (Part Any SpellsArguments) v x w ls k → Part Any Starting v x w ls k
   called_of v w x ls k (both (part (name_is id h) c) (mapped (on e (part s d)))) = part (call id h s) tt
   called_of v w x ls k (both (part (name_is id h) c) (mapped (off e done))) = part (bare_call id h) tt
 
-  pub a_called : Exact limit (st.called limit) (Part Any Starting) (Called (Reading limit (st.passed limit)))
-  unfolding st.called
+  pub a_called : Exact limit (st.call_launch limit) (Part Any Starting) (Called (Reading limit (st.passed_expressions limit)))
+  unfolding st.call_launch
   a_called = convert called_of (λ v w x ls k q. q) (bind (a_name limit) (λ n. map_to (λ args. Calls n (listed args)) a_maybe_passed))
 
-  pub called_by : Exact limit (st.called limit) (Part Any Starting) (Reading limit (st.called limit))
+  pub called_by : Exact limit (st.call_launch limit) (Part Any Starting) (Reading limit (st.call_launch limit))
   called_by = by_reading a_called.sound
 
   abbrev pub SoundStmt : Parser Statement → Type 0
@@ -189,18 +189,18 @@ module _ (limit : ℕ) where
     launching_of v w x ls k (on e (mapped (between right hl (bodied b) hr))) = part (blocked (block right hl b hr)) tt
     launching_of v w x ls k (off e q) = q
 
-    pub a_launch : Exact limit (st.launch limit p) (Part Any Starting) (LaunchBy (Reading limit (st.block limit p)) (Reading limit (st.called limit)))
+    pub a_launch : Exact limit (st.launch limit p) (Part Any Starting) (LaunchBy (Reading limit (st.block limit p)) (Reading limit (st.call_launch limit)))
     unfolding st.launch
     a_launch = convert launching_of (λ v w x ls k q. q) (either fixed.LeftCurly (map_to (λ b. Blocks b.0 (in_order b.1)) block_here) called_by)
 
     pub launch_by : Exact limit (st.launch limit p) (Part Any Starting) (Reading limit (st.launch limit p))
     launch_by = by_reading a_launch.sound
 
-    pub a_launches : Exact limit (st.launches limit p) (Part Any Launches) (Listed (Full (Reading limit (st.launch limit p))))
+    pub a_launches : Exact limit (st.launches limit p) (Part Any SpellsLaunches) (Listed (Full (Reading limit (st.launch limit p))))
     unfolding st.launches
     a_launches = convert (λ v w x ls k q. launches_in q) (λ v w x ls k q. q) (full_commas launch_by)
 
-    pub launches_by : Exact limit (st.launches limit p) (Part Any Launches) (Reading limit (st.launches limit p))
+    pub launches_by : Exact limit (st.launches limit p) (Part Any SpellsLaunches) (Reading limit (st.launches limit p))
     launches_by = by_reading a_launches.sound
 
     -- ---- statements
@@ -261,7 +261,7 @@ module _ (limit : ℕ) where
           Choice fixed.Else SaidHere (Said u) (λ a. Otherwise t test a (Said u)) (λ a. Done (plain.If t.place test a absent)))))
 
       abbrev pub IfBy : Lang Statement
-      IfBy = Scoped (Over limit fixed.If (λ t. Bind (Reading limit (st.bracketed limit)) (λ test.
+      IfBy = Scoped (Over limit fixed.If (λ t. Bind (Reading limit (st.bracketed_expression limit)) (λ test.
           Bind (Reading limit p) (λ a. If fixed.Else (OtherwiseBy t test a) (Done (plain.If t.place test a absent))))))
 
       pub branched_of : {v w : ℕ} {x : Statement} {ls : List Spelt} {k : Option TokenKind} → Branched v x w ls k → Said u v x w ls k
@@ -279,11 +279,11 @@ module _ (limit : ℕ) where
       abbrev WhileBy : Lang Term → Lang (Option Number) → Lang Statement → Lang Statement
       WhileBy B N S = Scoped (Bind (Up fixed.While) (λ t. Bind B (λ test. Bind N (λ turns. Map (λ x. plain.While t.place test turns x) S))))
 
-      pub looping_of : (v w : ℕ) (x : Statement) (ls : List Spelt) (k : Option TokenKind) → WhileBy (Part Any Brackets) (Part Any Bounds) (Said u) v x w ls k → Said u v x w ls k
+      pub looping_of : (v w : ℕ) (x : Statement) (ls : List Spelt) (k : Option TokenKind) → WhileBy (Part Any Brackets) (Part Any SpellsBound) (Said u) v x w ls k → Said u v x w ls k
       looping_of v w x ls k (inside (both (up h) (both (part b c) (both (part n d) (mapped (said s calm)))))) = said (loops h b n s) calm
 
       abbrev LoopingBy : Lang Statement
-      LoopingBy = Scoped (Over limit fixed.While (λ t. Bind (Reading limit (st.bracketed limit)) (λ test. Bind (Reading limit (st.bound limit)) (λ turns. Map (λ x. plain.While t.place test turns x) (Reading limit p)))))
+      LoopingBy = Scoped (Over limit fixed.While (λ t. Bind (Reading limit (st.bracketed_expression limit)) (λ test. Bind (Reading limit (st.bound limit)) (λ turns. Map (λ x. plain.While t.place test turns x) (Reading limit p)))))
 
       pub x_looping : Exact limit (st.while_statement limit p) (Said u) LoopingBy
       unfolding st.while_statement
@@ -293,7 +293,7 @@ module _ (limit : ℕ) where
       abbrev ForBy : Lang Head → Lang (Option Number) → Lang Statement → Lang Statement
       ForBy B N S = Scoped (Bind (Up fixed.For) (λ t. Bind B (λ h. Bind N (λ turns. Map (λ x. plain.For t.place h.start h.test h.step turns x) S))))
 
-      pub counting_of : (v w : ℕ) (x : Statement) (ls : List Spelt) (k : Option TokenKind) → ForBy (Part Any Heads) (Part Any Bounds) (Said u) v x w ls k → Said u v x w ls k
+      pub counting_of : (v w : ℕ) (x : Statement) (ls : List Spelt) (k : Option TokenKind) → ForBy (Part Any Heads) (Part Any SpellsBound) (Said u) v x w ls k → Said u v x w ls k
       counting_of v w x ls k (inside (both (up h) (both (part b c) (both (part n d) (mapped (said s calm)))))) = said (counts h b n s) calm
 
       abbrev CountingBy : Lang Statement
@@ -317,7 +317,7 @@ module _ (limit : ℕ) where
       abbrev Forking : Lang (List Launch) → Lang Statement
       Forking L = Bind (Tok fixed.Par) (λ t. Bind (Enclosed fixed.LeftRound fixed.RightRound (λ _ xs. xs) L) (λ bs. Map (λ (_ : Token). plain.Par t.place (launched bs)) (Last fixed.Semicolon u)))
 
-      pub forking_of : (v w : ℕ) (x : Statement) (ls : List Spelt) (k : Option TokenKind) → Forking (Part Any Launches) v x w ls k → Said u v x w ls k
+      pub forking_of : (v w : ℕ) (x : Statement) (ls : List Spelt) (k : Option TokenKind) → Forking (Part Any SpellsLaunches) v x w ls k → Said u v x w ls k
       forking_of v w x ls k (both (tok h) (both (between right hl (part s c) hr) (mapped (last m)))) = said (forks _ h (forked right hl s hr) m) (open_never k)
 
       abbrev ForkingBy : Lang Statement
@@ -345,7 +345,7 @@ module _ (limit : ℕ) where
 
       abbrev AbortingBy : Bool → Lang Statement
       AbortingBy weak = Scoped (Over limit fixed.Abort (λ t. Bind (Reading limit (st.block limit p)) (λ b. Bind (Tok fixed.When) (λ _. Bind (Reading limit (st.flag fixed.Immediate)) (λ immediate.
-          Bind (Reading limit (st.bracketed limit)) (λ test. Map (λ (_ : Token). plain.Abort t.place weak immediate test (in_order b.1)) (Last fixed.Semicolon u)))))))
+          Bind (Reading limit (st.bracketed_expression limit)) (λ test. Map (λ (_ : Token). plain.Abort t.place weak immediate test (in_order b.1)) (Last fixed.Semicolon u)))))))
 
       pub x_abort_statement : (weak : Bool) → Exact limit (st.abort_statement limit p weak) (Part Any (AbortRest weak)) (AbortingBy weak)
       unfolding st.abort_statement
@@ -359,7 +359,7 @@ module _ (limit : ℕ) where
       pub giving_of : (v w : ℕ) (x : Statement) (ls : List Spelt) (k : Option TokenKind) → Giving (Part Any Whole) v x w ls k → Said u v x w ls k
       giving_of v w x ls k (both (tok h) (both (part s c) (mapped (last m)))) = said (gives_back _ h s m) (open_never k)
 
-      pub x_return_statement : Exact limit (st.return_statement limit) (Said u) (Giving (Reading limit (st.value limit)))
+      pub x_return_statement : Exact limit (st.return_statement limit) (Said u) (Giving (Reading limit (st.whole_expression limit)))
       unfolding st.return_statement
       x_return_statement = convert giving_of (λ v w x ls k q. q) (bind (token limit fixed.Return) (λ t. bind (a_value limit) (λ x. map_to (λ (_ : Token). plain.Return t.place x) (last_token limit u low fixed.Semicolon))))
 
@@ -384,11 +384,11 @@ module _ (limit : ℕ) where
       one_of sort.Simple i j x small h = x_acting.sound i j x small h
       one_of sort.Nothing i j x small h = absurd (cc)
 
-    sound_one : SoundStmt (st.one limit p)
-    unfolding st.one
+    sound_one : SoundStmt (st.one_statement limit p)
+    unfolding st.one_statement
     sound_one u low i j x small h = one_of u low (sort_of (kind_ahead i.rest)) i j x small h
 
-  pub sound_stmt : (d : ℕ) → SoundStmt (stmt limit d)
-  unfolding stmt
+  pub sound_stmt : (d : ℕ) → SoundStmt (read_statement limit d)
+  unfolding read_statement
   sound_stmt zero u low i j x small h = absurd (cc)
-  sound_stmt (suc d) u low i j x small h = sound_one (stmt limit d) (sound_stmt d) u low i j x small h
+  sound_stmt (suc d) u low i j x small h = sound_one (read_statement limit d) (sound_stmt d) u low i j x small h

@@ -2,7 +2,7 @@
 use Rattle.std.proofs.Common.{ℕ, zero, suc, ◌++◌, ◌∷◌, Bool, true, false, [], Option, Some, None, refl, arith}
 use Rattle.forec_base.specs.declared.operators.Binary.{Binary}
 use Rattle.forec_tree.specs.declared.tree.Number.{Number}
-use Rattle.forec_tree.specs.Terms.{Written, Statement}
+use Rattle.forec_tree.specs.Terms.{PlainTarget, Statement}
 use Rattle.expr_parser.specs.declared.fixed.Fixed.{Fixed}
 use Rattle.expr_parser.specs.declared.fixed.Fixed.TheVariants as fixed
 use Rattle.forec_parser.specs.declared.meaning.Change.{Change}
@@ -12,8 +12,8 @@ use Rattle.forec_parser.specs.declared.meaning.Act.TheVariants as act
 use Rattle.forec_parser.specs.declared.meaning.Sort.{Sort}
 use Rattle.forec_parser.specs.declared.meaning.Sort.TheVariants as sort
 use Rattle.expr_parser.specs.Input.{Parser}
-use Rattle.expr_parser.specs.Reading.{expr}
-use Rattle.forec_parser.specs.Meaning.{update_of, step_of, change_of, act_of, sort_of, ends_body}
+use Rattle.expr_parser.specs.Reading.{read_expression}
+use Rattle.forec_parser.specs.Meaning.{update_of, token_step, change_of, act_of, sort_of, ends_body}
 use Rattle.forec_parser.specs.Statements as st
 use Rattle.expr_parser.proofs.Steady.{too_deep, deep, Limits, deeper, less_deep, Steady, Loops, bind, scope, exhausted, done, refused, by_kind, either, taken, closed, entered, enclosing, named, numbered, looping, listing}
 use Rattle.expr_parser.proofs.ExpressionSteady as expression
@@ -29,7 +29,7 @@ update_steady = by_kind (λ c. st.op_by (update_of c)) (λ c. st.op_by (update_o
 
 step_mark_steady : {E : Type 0} → Steady E 1 st.step_mark st.step_mark
 unfolding st.step_mark
-step_mark_steady = by_kind (λ c. st.op_by (step_of c)) (λ c. st.op_by (step_of c)) (λ c. op_steady (step_of c))
+step_mark_steady = by_kind (λ c. st.op_by (token_step c)) (λ c. st.op_by (token_step c)) (λ c. op_steady (token_step c))
 
 flag_steady : {E : Type 0} (f : Fixed) → Steady E 0 (st.flag f) (st.flag f)
 unfolding st.flag
@@ -41,28 +41,28 @@ bodies limit p = record { last = λ s i. refl; turn = λ n s i. refl }
 
 -- under the limits k and l
 module _ {E : Type 0} (k l : ℕ) (le : Limits E k l) where
-  exprs : (n : ℕ) → Steady E 1 (expr k (suc k) n) (expr l (suc l) n)
+  exprs : (n : ℕ) → Steady E 1 (read_expression k (suc k) n) (read_expression l (suc l) n)
   exprs n = expr_steady k l le (suc k) (suc l) (deeper le) n
 
-  value_steady : Steady E 1 (st.value k) (st.value l)
-  unfolding st.value
-  value_steady = expression.value_steady k l le (expr k (suc k)) (expr l (suc l)) exprs
+  value_steady : Steady E 1 (st.whole_expression k) (st.whole_expression l)
+  unfolding st.whole_expression
+  value_steady = expression.value_steady k l le (read_expression k (suc k)) (read_expression l (suc l)) exprs
 
   values_steady : Steady E 0 (st.values k) (st.values l)
   unfolding st.values
-  values_steady = listing (expression.value_steady k l le (expr k (suc k)) (expr l (suc l)) exprs)
+  values_steady = listing (expression.value_steady k l le (read_expression k (suc k)) (read_expression l (suc l)) exprs)
 
-  bracketed_steady : Steady E 1 (st.bracketed k) (st.bracketed l)
-  unfolding st.bracketed
-  bracketed_steady = expression.bracketed_steady k l le (expr k (suc k)) (expr l (suc l)) exprs
+  bracketed_steady : Steady E 1 (st.bracketed_expression k) (st.bracketed_expression l)
+  unfolding st.bracketed_expression
+  bracketed_steady = expression.bracketed_steady k l le (read_expression k (suc k)) (read_expression l (suc l)) exprs
 
-  indexed_steady : Steady E 1 (st.indexed k) (st.indexed l)
-  unfolding st.indexed
-  indexed_steady = expression.indexed_steady k l le (expr k (suc k)) (expr l (suc l)) exprs
+  indexed_steady : Steady E 1 (st.index_expression k) (st.index_expression l)
+  unfolding st.index_expression
+  indexed_steady = expression.indexed_steady k l le (read_expression k (suc k)) (read_expression l (suc l)) exprs
 
-  passed_steady : Steady E 1 (st.passed k) (st.passed l)
-  unfolding st.passed
-  passed_steady = expression.passed_steady k l le (expr k (suc k)) (expr l (suc l)) exprs
+  passed_steady : Steady E 1 (st.passed_expressions k) (st.passed_expressions l)
+  unfolding st.passed_expressions
+  passed_steady = expression.passed_steady k l le (read_expression k (suc k)) (read_expression l (suc l)) exprs
 
   -- ---- simple statements
 
@@ -74,18 +74,18 @@ module _ {E : Type 0} (k l : ℕ) (le : Limits E k l) where
   unfolding st.target
   target_steady = bind named (λ n. bind maybe_index_steady (λ x. done _))
 
-  changed_by_steady : (c : Change) (to : Written) → Steady E 1 (st.changed_by k c to) (st.changed_by l c to)
+  changed_by_steady : (c : Change) (to : PlainTarget) → Steady E 1 (st.changed_by k c to) (st.changed_by l c to)
   changed_by_steady change.Sets to = bind (closed fixed.Assign) (λ _. bind value_steady (λ x. done _))
   changed_by_steady change.Updates to = bind update_steady (λ op. bind value_steady (λ x. done _))
   changed_by_steady change.Increments to = bind step_mark_steady (λ op. done _)
   changed_by_steady change.Nothing to = refused
 
-  changed_steady : (to : Written) → Steady E 1 (st.changed k to) (st.changed l to)
+  changed_steady : (to : PlainTarget) → Steady E 1 (st.changed k to) (st.changed l to)
   unfolding st.changed
   changed_steady to = by_kind (λ c. st.changed_by k (change_of c) to) (λ c. st.changed_by l (change_of c) to) (λ c. changed_by_steady (change_of c) to)
 
-  named_steady : Steady E 1 (st.named k) (st.named l)
-  unfolding st.named st.invoked st.assigned
+  named_steady : Steady E 1 (st.named_statement k) (st.named_statement l)
+  unfolding st.named_statement st.invoked st.assign_statement
   named_steady = bind named (λ n. either fixed.LeftRound (bind passed_steady (λ xs. done _)) (bind maybe_index_steady (λ x. changed_steady _)))
 
   stepped_steady : Steady E 1 (st.stepped k) (st.stepped l)
@@ -104,7 +104,7 @@ module _ {E : Type 0} (k l : ℕ) (le : Limits E k l) where
   -- ---- declarations
 
   pub maybe_length_steady : Steady E 0 (st.maybe_length k) (st.maybe_length l)
-  unfolding st.maybe_length st.array_length
+  unfolding st.maybe_length st.length_part
   maybe_length_steady = either fixed.LeftSquare (bind (enclosing k l le fixed.LeftSquare fixed.RightSquare (λ _ n. n) numbered) (λ n. done (Some n))) (done None)
 
   initial_by_steady : (o : Option Number) → Steady E 1 (st.initial_by k o) (st.initial_by l o)
@@ -126,8 +126,8 @@ module _ {E : Type 0} (k l : ℕ) (le : Limits E k l) where
   unfolding st.bound
   bound_steady = either fixed.Hash (bind (bind (closed fixed.Hash) (λ _. numbered)) (λ n. done (Some n))) (done None)
 
-  start_steady : Steady E 0 (st.start k) (st.start l)
-  unfolding st.start st.some_start st.first_local
+  start_steady : Steady E 0 (st.start_part k) (st.start_part l)
+  unfolding st.start_part st.some_start st.first_local
   start_steady = either fixed.Semicolon (done _) (either fixed.Int
       (bind (closed fixed.Int) (λ int. bind named (λ n. bind (closed fixed.Assign) (λ _. bind value_steady (λ x. done _)))))
       (bind simple_steady (λ x. done _)))
@@ -136,8 +136,8 @@ module _ {E : Type 0} (k l : ℕ) (le : Limits E k l) where
   unfolding st.loop_test
   loop_test_steady = either fixed.Semicolon (done None) (bind value_steady (λ x. done (Some x)))
 
-  step_steady : Steady E 0 (st.step k) (st.step l)
-  unfolding st.step
+  step_steady : Steady E 0 (st.step_part k) (st.step_part l)
+  unfolding st.step_part
   step_steady = either fixed.RightRound (done _) (bind simple_steady (λ x. done _))
 
   head_steady : Steady E 1 (st.head k) (st.head l)
@@ -145,8 +145,8 @@ module _ {E : Type 0} (k l : ℕ) (le : Limits E k l) where
   head_steady = enclosing k l le fixed.LeftRound fixed.RightRound (λ _ h. h)
       (bind start_steady (λ a. bind (closed fixed.Semicolon) (λ _. bind loop_test_steady (λ b. bind (closed fixed.Semicolon) (λ _. bind step_steady (λ c. done _))))))
 
-  called_steady : Steady E 1 (st.called k) (st.called l)
-  unfolding st.called st.maybe_passed
+  called_steady : Steady E 1 (st.call_launch k) (st.call_launch l)
+  unfolding st.call_launch st.maybe_passed
   called_steady = bind named (λ n. bind (either fixed.LeftRound passed_steady (done [])) (λ args. done _))
 
   -- ---- statements, by those in them
@@ -199,13 +199,13 @@ module _ {E : Type 0} (k l : ℕ) (le : Limits E k l) where
     one_by_steady sort.Simple = bind simple_steady (λ x. bind (closed fixed.Semicolon) (λ _. done x))
     one_by_steady sort.Nothing = refused
 
-    one_steady : Steady E 1 (st.one k p) (st.one l q)
-    unfolding st.one
+    one_steady : Steady E 1 (st.one_statement k p) (st.one_statement l q)
+    unfolding st.one_statement
     one_steady = by_kind (λ c. st.one_by k p (sort_of c)) (λ c. st.one_by l q (sort_of c)) (λ c. one_by_steady (sort_of c))
 
-pub stmt_steady : {E : Type 0} (k l : ℕ) → Limits E k l → (d e : ℕ) → Limits E d e → Steady E 1 (st.stmt k d) (st.stmt l e)
-unfolding st.stmt
+pub stmt_steady : {E : Type 0} (k l : ℕ) → Limits E k l → (d e : ℕ) → Limits E d e → Steady E 1 (st.read_statement k d) (st.read_statement l e)
+unfolding st.read_statement
 stmt_steady k l le zero zero lower = exhausted
 stmt_steady k l le zero (suc e) lower = record { within = λ i. too_deep (omega arith); same = λ x y h a v. deep (λ q z. absurd (let no = lower.equal q in omega (arith, no))) }
 stmt_steady k l le (suc d) zero lower = absurd (let h = lower.grows in omega (arith, h))
-stmt_steady k l le (suc d) (suc e) lower = one_steady k l le (st.stmt k d) (st.stmt l e) (stmt_steady k l le d e (less_deep lower))
+stmt_steady k l le (suc d) (suc e) lower = one_steady k l le (st.read_statement k d) (st.read_statement l e) (stmt_steady k l le d e (less_deep lower))

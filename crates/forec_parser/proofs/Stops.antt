@@ -13,7 +13,7 @@ use Rattle.forec_parser.specs.declared.fault.ParseFault.TheVariants as public
 use Rattle.expr_parser.specs.Input.{input, Outcome, max_level}
 use Rattle.forec_parser.specs.Items.{items}
 use Rattle.forec_parser.specs.ViablePrefixes.{IsFront, IsFrontWithin, OpensAbove, StopsAt, OpensAt}
-use Rattle.forec_parser.specs.Program.{Ends, HasCause, IsAmong, told_of}
+use Rattle.forec_parser.specs.Program.{ReadsProgram, HasParseCause, IsAmong, told_of}
 use Rattle.expr_parser.proofs.Spans.{within_front}
 use Rattle.forec_tree.specs.declared.tree.Program.{Program}
 use Rattle.forec_tree.specs.Plain.{program}
@@ -234,28 +234,28 @@ is_among ts (Syntax left) h = items_among max_level (input ts 0) left (h (λ z. 
 is_among ts (Deep left) h = items_deep_among max_level (input ts 0) left (h (λ z. cc))
 is_among ts OutOfMemory h = tt
 
-pub has_cause : (ts : List Token) (f : Fault) → (f ≢ OutOfMemory → Holds ts f) → HasCause ts (told_of (length ts) f)
+pub has_cause : (ts : List Token) (f : Fault) → (f ≢ OutOfMemory → Holds ts f) → HasParseCause ts (told_of (length ts) f)
 has_cause ts (Syntax left) h = stops_so max_level ts left (h (λ z. cc))
 has_cause ts (Deep left) h = opens_so max_level ts left (h (λ z. cc))
 has_cause ts OutOfMemory h = tt
 
-pub only_memory : (ts : List Token) (f : ParseFault) → HasCause ts f → (text : Text) → IsSpelled max_level text ts → f ≡ public.OutOfMemory
+pub only_memory : (ts : List Token) (f : ParseFault) → HasParseCause ts f → (text : Text) → IsSpelled max_level text ts → f ≡ public.OutOfMemory
 only_memory ts (public.Syntax n) h text s = absurd (spelled_never_stops max_level ts text n s h)
 only_memory ts (public.Deep n) h text s = absurd (spelled_never_opens max_level ts text n s h)
 only_memory ts public.OutOfMemory h text s = refl
 
-pub only_stop : (ts : List Token) (f : ParseFault) → HasCause ts f → (n : ℕ) → StopsAt max_level ts n → f ≢ public.OutOfMemory → f ≡ public.Syntax n
+pub only_stop : (ts : List Token) (f : ParseFault) → HasParseCause ts f → (n : ℕ) → StopsAt max_level ts n → f ≢ public.OutOfMemory → f ≡ public.Syntax n
 only_stop ts (public.Syntax m) h n x not = ap (λ z. public.Syntax z) (one_stop max_level ts m n h x)
 only_stop ts (public.Deep m) h n x not = absurd (stops_or_opens max_level ts n m x h)
 only_stop ts public.OutOfMemory h n x not = absurd (not refl)
 
-pub only_opening : (ts : List Token) (f : ParseFault) → HasCause ts f → (n : ℕ) → OpensAt max_level ts n → f ≢ public.OutOfMemory → f ≡ public.Deep n
+pub only_opening : (ts : List Token) (f : ParseFault) → HasParseCause ts f → (n : ℕ) → OpensAt max_level ts n → f ≢ public.OutOfMemory → f ≡ public.Deep n
 only_opening ts (public.Syntax m) h n x not = absurd (stops_or_opens max_level ts m n h x)
 only_opening ts (public.Deep m) h n x not = ap (λ z. public.Deep z) (one_opening max_level ts m n h x)
 only_opening ts public.OutOfMemory h n x not = absurd (not refl)
 
-pub found_never_stops : (ts : List Token) (p : Program) (n : ℕ) → Ends (items max_level (input ts 0)) p → StopsAt max_level ts n → ⊥
+pub found_never_stops : (ts : List Token) (p : Program) (n : ℕ) → ReadsProgram (items max_level (input ts 0)) p → StopsAt max_level ts n → ⊥
 found_never_stops ts p n e h = spelled_never_stops max_level ts (program p) n (found_so ts p e) h
 
-pub found_never_opens : (ts : List Token) (p : Program) (n : ℕ) → Ends (items max_level (input ts 0)) p → OpensAt max_level ts n → ⊥
+pub found_never_opens : (ts : List Token) (p : Program) (n : ℕ) → ReadsProgram (items max_level (input ts 0)) p → OpensAt max_level ts n → ⊥
 found_never_opens ts p n e h = spelled_never_opens max_level ts (program p) n (found_so ts p e) h

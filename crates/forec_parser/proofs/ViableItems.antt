@@ -11,7 +11,7 @@ use Rattle.forec_tree.specs.declared.tree.Number.{Number}
 use Rattle.forec_tree.specs.declared.tree.GlobalKind.{GlobalKind}
 use Rattle.forec_tree.specs.declared.tree.GlobalKind.TheVariants as glob
 use Rattle.forec_tree.specs.Spelling.{at}
-use Rattle.forec_tree.specs.SpelledPrograms.{Signed, Table, Combines, Param, Params, Parameters, Introduces}
+use Rattle.forec_tree.specs.SpelledPrograms.{Signed, Table, SpellsCombine, Param, Params, Parameters, Introduces}
 use Rattle.expr_parser.specs.declared.fault.Fault.{Fault}
 use Rattle.expr_parser.specs.declared.fixed.Fixed.TheVariants as fixed
 use Rattle.forec_parser.specs.declared.meaning.Opening.{Opening}
@@ -20,10 +20,10 @@ use Rattle.forec_parser.specs.declared.meaning.Declarator.{Declarator}
 use Rattle.forec_parser.specs.declared.meaning.Declarator.TheVariants as decl
 use Rattle.expr_parser.specs.Input.{Input, kind_ahead}
 use Rattle.expr_parser.specs.Meaning.{is_fixed}
-use Rattle.forec_parser.specs.Meaning.{opening_of, policy_of}
-use Rattle.forec_parser.specs.Statements.{stmt}
+use Rattle.forec_parser.specs.Meaning.{opening_of, token_policy}
+use Rattle.forec_parser.specs.Statements.{read_statement}
 use Rattle.forec_parser.specs.Items as it
-use Rattle.forec_parser.specs.Items.{combine_of}
+use Rattle.forec_parser.specs.Items.{combine_with}
 use Rattle.expr_parser.proofs.Closers.{kind_of}
 use Rattle.expr_parser.proofs.Exact.{Part, part, Any}
 use Rattle.expr_parser.proofs.Leaves.{token, a_name}
@@ -51,7 +51,7 @@ module _ (limit low : ℕ) where
   -- ---- values
 
   signed_at : {m : ℕ} {k : Option TokenKind} → Viable limit m it.signed (Part Any Signed) a_number k
-  unfolding it.signed it.negative
+  unfolding it.signed it.negative_number
   signed_at = convert (ir.signed_number_of limit) (either_off fixed.Minus refl (bind (token limit fixed.Minus) token_keeps (token_at fixed.Minus) (λ t. map_to (ir.negated limit t) number_here)) number_here)
 
   one_value_at : {k : Option TokenKind} → Viable limit low it.one_value (Part Any (ir.OneValue limit)) (Some (kind_of fixed.Assign)) k
@@ -64,19 +64,19 @@ module _ (limit low : ℕ) where
 
   -- ---- how copies are combined
 
-  policy_stops : {k : Option TokenKind} (i : Input) (e : Fault) (o : Option Policy) → policy_of (kind_ahead i.rest) ≡ o → it.policy_by o i ≡ Err e → Refused limit (Part Any PolicyIs) k i e
+  policy_stops : {k : Option TokenKind} (i : Input) (e : Fault) (o : Option Policy) → token_policy (kind_ahead i.rest) ≡ o → it.policy_by o i ≡ Err e → Refused limit (Part Any PolicyIs) k i e
   policy_stops i e None s h = refused_here (least_policy i.level) (cc)
-  policy_stops i e (Some p) s h = absurd (taken_always policy_of (λ _. p) i p e refl s h)
+  policy_stops i e (Some p) s h = absurd (taken_always token_policy (λ _. p) i p e refl s h)
 
   policy_at : {k : Option TokenKind} → Viable limit low it.policy (Part Any PolicyIs) an_all k
   unfolding it.policy
-  policy_at = record { refused = λ i e deep small h. policy_stops i e (policy_of (kind_ahead i.rest)) refl h; least = least_policy }
+  policy_at = record { refused = λ i e deep small h. policy_stops i e (token_policy (kind_ahead i.rest)) refl h; least = least_policy }
 
-  combines_at : {k : Option TokenKind} → Viable limit low it.combines (Part Any Combines) (Some (kind_of fixed.Combine)) k
+  combines_at : {k : Option TokenKind} → Viable limit low it.combines (Part Any SpellsCombine) (Some (kind_of fixed.Combine)) k
   unfolding it.combines
   combines_at = convert (ir.combines_of limit)
       (bind (token limit fixed.Combine) token_keeps (token_at fixed.Combine) (λ _. bind (ir.a_policy limit) part_keeps policy_at (λ p.
-      bind (token limit fixed.With) token_keeps (token_at fixed.With) (λ _. map_to (combine_of p) name_here))))
+      bind (token limit fixed.With) token_keeps (token_at fixed.With) (λ _. map_to (combine_with p) name_here))))
 
   -- ---- parameters
 
@@ -111,8 +111,8 @@ module _ (limit low : ℕ) where
   unfolding it.table
   table_at = convert (ir.table_of limit) (bind (a_name limit) part_keeps name_here (λ n. bind (maybe_length_by limit) part_keeps (maybe_length_at limit refl) (λ length. map_to (ir.constant_of limit n length) (values_at length))))
 
-  declared_at : {k : Option TokenKind} (d : Declarator) → is_fixed fixed.Assign k ≡ false → Viable limit low (it.declared limit d) (Part Any (IsItem (DeclaredAs d))) leaf.a_name k
-  unfolding it.declared
+  declared_at : {k : Option TokenKind} (d : Declarator) → is_fixed fixed.Assign k ≡ false → Viable limit low (it.declared_item limit d) (Part Any (IsItem (DeclaredAs d))) leaf.a_name k
+  unfolding it.declared_item
   declared_at decl.Table n = table_at
   declared_at decl.Bare n = convert (ir.bare_of limit) (map_to (ir.input_of limit) name_here)
   declared_at (decl.Valued q) n = convert (ir.valued_item_of limit q) (bind (a_name limit) part_keeps name_here (λ t. map_to (ir.valued_of limit q t) (maybe_value_at n)))
@@ -136,7 +136,7 @@ module _ (limit low : ℕ) where
   unfolding it.function
   function_at gives n = convert (is'.function_rest_of limit gives n)
       (bind (ir.parameters_by limit) part_keeps parameters_at (λ ps. map_to (λ b. function_of gives n ps b.1 ∷ [])
-      (block_at limit (stmt limit (suc limit)) (sound_stmt limit (suc limit)) low (viable_stmt limit (suc limit) (low + 1) (omega arith)) (omega arith) (λ v. v))))
+      (block_at limit (read_statement limit (suc limit)) (sound_stmt limit (suc limit)) low (viable_stmt limit (suc limit) (low + 1) (omega arith)) (omega arith) (λ v. v))))
 
   more_at : Viable limit low (it.more_globals limit) (Part Any MoreGlobals) a_semicolon a_semicolon
   unfolding it.more_globals
@@ -166,8 +166,8 @@ module _ (limit low : ℕ) where
   shares_at = convert (λ v w x ls o q. is'.shares_of limit q) (bind (token limit fixed.Shared) token_keeps (token_at fixed.Shared) (λ _.
       either_off fixed.Output refl (bind (token limit fixed.Output) token_keeps (token_at fixed.Output) (λ _. shared_at glob.SharedOutput)) (shared_at glob.Shared)))
 
-  numbers_at : {k : Option TokenKind} → Viable limit low (it.numbers limit) (Part Any Introduces) (Some (kind_of fixed.Int)) k
-  unfolding it.numbers
+  numbers_at : {k : Option TokenKind} → Viable limit low (it.int_item limit) (Part Any Introduces) (Some (kind_of fixed.Int)) k
+  unfolding it.int_item
   numbers_at = convert (λ v w x ls o q. is'.numbers_of limit q) (bind (token limit fixed.Int) token_keeps (token_at fixed.Int) (λ _. bind (a_name limit) part_keeps name_here (λ n.
       either_off fixed.LeftRound refl (function_at true n) (plain_at n))))
 

@@ -7,10 +7,10 @@ use Rattle.forec_tree.specs.declared.token.TokenKind.TheVariants as kind
 use Rattle.forec_tree.specs.declared.token.Mark.TheVariants as mark
 use Rattle.forec_tree.specs.declared.tree.Number.{Number}
 use Rattle.forec_tree.specs.Terms as plain
-use Rattle.forec_tree.specs.Terms.{Written, absent, present}
-use Rattle.forec_tree.specs.Spelling.{Spelt, at, listed, Whole, Brackets, Indexes, Passes, Arguments}
+use Rattle.forec_tree.specs.Terms.{PlainTarget, absent, present}
+use Rattle.forec_tree.specs.Spelling.{Spelt, at, listed, Whole, Brackets, SpellsIndex, SpellsArguments, SpellsExpressions}
 use Rattle.forec_tree.specs.Parts.{op_at, updates_by, steps_by, written_at, declared_as, head_of}
-use Rattle.forec_tree.specs.SpelledStatements.{Separated, Targets, Simple, Lengths, Declares, Bounds, ForStarts, Tests, ForSteps, HeadParts, Heads}
+use Rattle.forec_tree.specs.SpelledStatements.{Separated, Targets, Simple, Lengths, Declares, SpellsBound, ForStarts, Tests, ForSteps, HeadParts, Heads}
 use Rattle.expr_parser.specs.declared.fault.Fault.{Fault}
 use Rattle.expr_parser.specs.declared.fixed.Fixed.TheVariants as fixed
 use Rattle.forec_parser.specs.declared.meaning.Change.{Change}
@@ -19,8 +19,8 @@ use Rattle.forec_parser.specs.declared.meaning.Act.{Act}
 use Rattle.forec_parser.specs.declared.meaning.Act.TheVariants as act
 use Rattle.expr_parser.specs.Input.{Input, Parser, kind_ahead}
 use Rattle.expr_parser.specs.Meaning.{is_fixed}
-use Rattle.forec_parser.specs.Meaning.{update_of, step_of, change_of, act_of}
-use Rattle.expr_parser.specs.Reading.{expr, separated}
+use Rattle.forec_parser.specs.Meaning.{update_of, token_step, change_of, act_of}
+use Rattle.expr_parser.specs.Reading.{read_expression, separated}
 use Rattle.forec_parser.specs.Statements as st
 use Rattle.forec_parser.specs.Statements.{op_by}
 use Rattle.expr_parser.proofs.Closers.{kind_of}
@@ -75,32 +75,32 @@ module _ (limit : ℕ) where
 
   step_at : {low : ℕ} {k : Option TokenKind} → Viable limit low st.step_mark (Part Any (OpIs steps_by)) a_step k
   unfolding st.step_mark
-  step_at = record { refused = λ i e deep small h. op_stops step_of refl i e (least_step i.level) (step_of (kind_ahead i.rest)) refl h; least = least_step }
+  step_at = record { refused = λ i e deep small h. op_stops token_step refl i e (least_step i.level) (token_step (kind_ahead i.rest)) refl h; least = least_step }
 
   -- ---- expressions in statements
 
-  views : (low : ℕ) → ex.Views limit low (expr limit (suc limit))
+  views : (low : ℕ) → ex.Views limit low (read_expression limit (suc limit))
   views low = viable limit (suc limit) low (omega arith)
 
-  pub value_at : {low : ℕ} {k : Option TokenKind} → ends k ≡ true → Viable limit low (st.value limit) (Part Any Whole) a_number k
-  unfolding st.value
-  value_at {low} {k} e = ex.value_at limit (expr limit (suc limit)) (sound limit (suc limit)) (views low) (ends_ahead k e)
+  pub value_at : {low : ℕ} {k : Option TokenKind} → ends k ≡ true → Viable limit low (st.whole_expression limit) (Part Any Whole) a_number k
+  unfolding st.whole_expression
+  value_at {low} {k} e = ex.value_at limit (read_expression limit (suc limit)) (sound limit (suc limit)) (views low) (ends_ahead k e)
 
-  pub values_at : {low : ℕ} {k : Option TokenKind} → ends k ≡ true → is_fixed fixed.Comma k ≡ false → Viable limit low (st.values limit) (Part Any Arguments) a_number k
-  unfolding st.values st.value
-  values_at e n = convert (λ v w x ls o q. arguments_part q) (commas (value_by limit (expr limit (suc limit)) (sound limit (suc limit))) part_keeps n (value_at e))
+  pub values_at : {low : ℕ} {k : Option TokenKind} → ends k ≡ true → is_fixed fixed.Comma k ≡ false → Viable limit low (st.values limit) (Part Any SpellsExpressions) a_number k
+  unfolding st.values st.whole_expression
+  values_at e n = convert (λ v w x ls o q. arguments_part q) (commas (value_by limit (read_expression limit (suc limit)) (sound limit (suc limit))) part_keeps n (value_at e))
 
-  pub bracketed_at : {low : ℕ} {k : Option TokenKind} → Viable limit low (st.bracketed limit) (Part Any Brackets) (Some (kind_of fixed.LeftRound)) k
-  unfolding st.bracketed
-  bracketed_at {low} = ex.bracketed_at limit (expr limit (suc limit)) (sound limit (suc limit)) low (views (low + 1))
+  pub bracketed_at : {low : ℕ} {k : Option TokenKind} → Viable limit low (st.bracketed_expression limit) (Part Any Brackets) (Some (kind_of fixed.LeftRound)) k
+  unfolding st.bracketed_expression
+  bracketed_at {low} = ex.bracketed_at limit (read_expression limit (suc limit)) (sound limit (suc limit)) low (views (low + 1))
 
-  indexed_at : {low : ℕ} {k : Option TokenKind} → Viable limit low (st.indexed limit) (Part Any Indexes) (Some (kind_of fixed.LeftSquare)) k
-  unfolding st.indexed
-  indexed_at {low} = ex.indexed_at limit (expr limit (suc limit)) (sound limit (suc limit)) low (views (low + 1))
+  indexed_at : {low : ℕ} {k : Option TokenKind} → Viable limit low (st.index_expression limit) (Part Any SpellsIndex) (Some (kind_of fixed.LeftSquare)) k
+  unfolding st.index_expression
+  indexed_at {low} = ex.indexed_at limit (read_expression limit (suc limit)) (sound limit (suc limit)) low (views (low + 1))
 
-  pub passed_at : {low : ℕ} {k : Option TokenKind} → Viable limit low (st.passed limit) (Part Any Passes) (Some (kind_of fixed.LeftRound)) k
-  unfolding st.passed
-  passed_at {low} = ex.passed_at limit (expr limit (suc limit)) (sound limit (suc limit)) low (views (low + 1))
+  pub passed_at : {low : ℕ} {k : Option TokenKind} → Viable limit low (st.passed_expressions limit) (Part Any SpellsArguments) (Some (kind_of fixed.LeftRound)) k
+  unfolding st.passed_expressions
+  passed_at {low} = ex.passed_at limit (read_expression limit (suc limit)) (sound limit (suc limit)) low (views (low + 1))
 
   -- ---- simple statements
 
@@ -112,22 +112,22 @@ module _ (limit : ℕ) where
   unfolding st.target
   target_at n = convert (sr.target_of limit) (bind (leaf.a_name limit) part_keeps name_here (λ t. map_to (λ x. written_at t x) (maybe_index_at n)))
 
-  set_at : {low : ℕ} {k : Option TokenKind} (to : Written) → ends k ≡ true → Viable limit low (st.changed_by limit change.Sets to) (Part Any (Changes limit to)) (Some (kind_of fixed.Assign)) k
+  set_at : {low : ℕ} {k : Option TokenKind} (to : PlainTarget) → ends k ≡ true → Viable limit low (st.changed_by limit change.Sets to) (Part Any (Changes limit to)) (Some (kind_of fixed.Assign)) k
   set_at to e = convert (λ v w x ls o q. sr.set_of limit q) (bind (token limit fixed.Assign) token_keeps (token_at fixed.Assign) (λ _. map_to (λ x. plain.Assign to.name.place to None x) (value_at e)))
 
-  changed_stops : {low : ℕ} {k : Option TokenKind} (to : Written) → ends k ≡ true → (c : Change) (i : Input) (e : Fault) → low ≤ i.level → i.level ≤ limit → st.changed_by limit c to i ≡ Err e → Refused limit (Part Any (Changes limit to)) k i e
+  changed_stops : {low : ℕ} {k : Option TokenKind} (to : PlainTarget) → ends k ≡ true → (c : Change) (i : Input) (e : Fault) → low ≤ i.level → i.level ≤ limit → st.changed_by limit c to i ≡ Err e → Refused limit (Part Any (Changes limit to)) k i e
   changed_stops to n change.Sets i e deep small h = (set_at to n).refused i e deep small h
   changed_stops {low} to n change.Updates i e deep small h =
       refused_to (λ v w x ls o q. sr.updated_of limit q) ((bind {low = low} (sr.an_update limit) part_keeps update_at (λ op. map_to (λ x. plain.Assign to.name.place to (Some op) x) (value_at n))).refused i e deep small h)
   changed_stops {low} to n change.Increments i e deep small h = refused_to (λ v w x ls o q. sr.moved_of limit q) ((map_to {low = low} (sr.stepping_to limit to) step_at).refused i e deep small h)
   changed_stops {low} to n change.Nothing i e deep small h = refused_here ((set_at {low = low} to n).least i.level) (cc)
 
-  changed_at : {low : ℕ} {k : Option TokenKind} (to : Written) → ends k ≡ true → Viable limit low (st.changed limit to) (Part Any (Changes limit to)) (Some (kind_of fixed.Assign)) k
+  changed_at : {low : ℕ} {k : Option TokenKind} (to : PlainTarget) → ends k ≡ true → Viable limit low (st.changed limit to) (Part Any (Changes limit to)) (Some (kind_of fixed.Assign)) k
   unfolding st.changed
   changed_at {low} to n = record { refused = λ i e deep small h. changed_stops to n (change_of (kind_ahead i.rest)) i e deep small h; least = (set_at {low = low} to n).least }
 
-  named_at : {low : ℕ} {k : Option TokenKind} → ends k ≡ true → Viable limit low (st.named limit) (Part Any Simple) a_name k
-  unfolding st.named st.invoked st.assigned
+  named_at : {low : ℕ} {k : Option TokenKind} → ends k ≡ true → Viable limit low (st.named_statement limit) (Part Any Simple) a_name k
+  unfolding st.named_statement st.invoked st.assign_statement
   named_at e = convert (λ v w x ls o q. sr.named_of limit q)
       (bind (leaf.a_name limit) part_keeps name_here (λ n. either_off fixed.LeftRound refl (map_to (λ args. plain.Invoke n.place n (listed args)) passed_at)
       (bind (sr.maybe_index_by limit) part_keeps (maybe_index_at refl) (λ index. changed_at (written_at n index) e))))
@@ -147,8 +147,8 @@ module _ (limit : ℕ) where
 
   -- ---- declarators
 
-  length_at : {low : ℕ} {k : Option TokenKind} → Viable limit low (st.array_length limit) (Part Any Lengths) (Some (kind_of fixed.LeftSquare)) k
-  unfolding st.array_length
+  length_at : {low : ℕ} {k : Option TokenKind} → Viable limit low (st.length_part limit) (Part Any Lengths) (Some (kind_of fixed.LeftSquare)) k
+  unfolding st.length_part
   length_at = convert (pr.length_of limit) (enclosing fixed.LeftSquare fixed.RightSquare (λ _ n. n) (leaf.a_number limit) part_keeps number_here)
 
   pub maybe_length_at : {low : ℕ} {k : Option TokenKind} → is_fixed fixed.LeftSquare k ≡ false → Viable limit low (st.maybe_length limit) (Part Any (MaybeLength limit)) k k
@@ -175,7 +175,7 @@ module _ (limit : ℕ) where
 
   -- ---- loops
 
-  pub bound_at : {low : ℕ} {k : Option TokenKind} → is_fixed fixed.Hash k ≡ false → Viable limit low (st.bound limit) (Part Any Bounds) k k
+  pub bound_at : {low : ℕ} {k : Option TokenKind} → is_fixed fixed.Hash k ≡ false → Viable limit low (st.bound limit) (Part Any SpellsBound) k k
   unfolding st.bound
   bound_at n = convert (pr.bound_of limit) (either_off fixed.Hash n (map_to (λ x. Some x) (bind (token limit fixed.Hash) token_keeps (token_at fixed.Hash) (λ _. number_here))) (done_at None))
 
@@ -184,16 +184,16 @@ module _ (limit : ℕ) where
   first_local_at = bind (token limit fixed.Int) token_keeps (token_at fixed.Int) (λ int. bind (leaf.a_name limit) part_keeps name_here (λ n.
       bind (token limit fixed.Assign) token_keeps (token_at fixed.Assign) (λ _. map_to (pr.first_declared limit int n) (value_at refl))))
 
-  start_at : {low : ℕ} → Viable limit low (st.start limit) (Part Any ForStarts) (Some (kind_of fixed.Semicolon)) (Some (kind_of fixed.Semicolon))
-  unfolding st.start st.some_start
+  start_at : {low : ℕ} → Viable limit low (st.start_part limit) (Part Any ForStarts) (Some (kind_of fixed.Semicolon)) (Some (kind_of fixed.Semicolon))
+  unfolding st.start_part st.some_start
   start_at = convert (pr.starts_of limit) (either_on fixed.Semicolon refl (done_at absent) (either_off fixed.Int refl first_local_at (map_to (λ x. present x) (simple_at refl))))
 
   test_at : {low : ℕ} → Viable limit low (st.loop_test limit) (Part Any Tests) (Some (kind_of fixed.Semicolon)) (Some (kind_of fixed.Semicolon))
   unfolding st.loop_test
   test_at = convert (pr.tests_of limit) (either_on fixed.Semicolon refl (done_at None) (map_to (λ x. Some x) (value_at refl)))
 
-  last_step_at : {low : ℕ} → Viable limit low (st.step limit) (Part Any ForSteps) (Some (kind_of fixed.RightRound)) (Some (kind_of fixed.RightRound))
-  unfolding st.step
+  last_step_at : {low : ℕ} → Viable limit low (st.step_part limit) (Part Any ForSteps) (Some (kind_of fixed.RightRound)) (Some (kind_of fixed.RightRound))
+  unfolding st.step_part
   last_step_at = convert (pr.steps_of limit) (either_on fixed.RightRound refl (done_at absent) (map_to (λ x. present x) (simple_at refl)))
 
   head_parts_at : {low : ℕ} → Viable limit low (st.head_parts limit) (Part Any HeadParts) (Some (kind_of fixed.Semicolon)) (Some (kind_of fixed.RightRound))

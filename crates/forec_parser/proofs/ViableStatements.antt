@@ -7,7 +7,7 @@ use Rattle.forec_tree.specs.Terms as plain
 use Rattle.forec_tree.specs.Terms.{Term, Statement, absent, present}
 use Rattle.forec_tree.specs.Spelling.{Spelt, at, listed}
 use Rattle.forec_tree.specs.Parts.{in_order, Calls, Blocks, launched}
-use Rattle.forec_tree.specs.SpelledStatements.{Optional, nothing, no_more, Starting, Launches}
+use Rattle.forec_tree.specs.SpelledStatements.{Optional, nothing, no_more, Starting, SpellsLaunches}
 use Rattle.expr_parser.specs.declared.fault.Fault.{Fault}
 use Rattle.expr_parser.specs.declared.fault.Fault.TheVariants.{Syntax}
 use Rattle.expr_parser.specs.declared.fixed.Fixed.TheVariants as fixed
@@ -17,7 +17,7 @@ use Rattle.expr_parser.specs.Input.{Input, Parser, and_then, kind_ahead}
 use Rattle.expr_parser.specs.Meaning.{is_fixed}
 use Rattle.forec_parser.specs.Meaning.{sort_of, ends_body}
 use Rattle.forec_parser.specs.Statements as st
-use Rattle.forec_parser.specs.Statements.{stmt}
+use Rattle.forec_parser.specs.Statements.{read_statement}
 use Rattle.expr_parser.proofs.Spans.{ok_of}
 use Rattle.expr_parser.proofs.Closers.{kind_of}
 use Rattle.expr_parser.proofs.Exact.{Bind, Map, mapped, Part, Any}
@@ -72,8 +72,8 @@ module _ (limit : ℕ) where
   unfolding st.flag
   flag_at n = convert flag_of (either_off fixed.Immediate n (map_to (λ _. true) (token_at fixed.Immediate)) (done_at false))
 
-  called_at : {low : ℕ} {k : Option TokenKind} → is_fixed fixed.LeftRound k ≡ false → Viable limit low (st.called limit) (Part Any Starting) leaf.a_name k
-  unfolding st.called st.maybe_passed
+  called_at : {low : ℕ} {k : Option TokenKind} → is_fixed fixed.LeftRound k ≡ false → Viable limit low (st.call_launch limit) (Part Any Starting) leaf.a_name k
+  unfolding st.call_launch st.maybe_passed
   called_at n = convert (ss.called_of limit) (bind (a_name limit) part_keeps name_here (λ t. map_to (λ args. Calls t (listed args)) (either_off fixed.LeftRound n (passed_at limit) (done_at []))))
 
   -- from the level low on, a statement is refused after the front of one
@@ -134,7 +134,7 @@ module _ (limit : ℕ) where
     unfolding st.launch
     launch_at le n = convert (ss.launching_of limit p so) (either_off fixed.LeftCurly refl (map_to (λ b. Blocks b.0 (in_order b.1)) (block_at le (λ v. v))) (called_at n))
 
-    launches_at : {m : ℕ} → low ≤ m → Viable limit m (st.launches limit p) (Part Any Launches) leaf.a_name (Some (kind_of fixed.RightRound))
+    launches_at : {m : ℕ} → low ≤ m → Viable limit m (st.launches limit p) (Part Any SpellsLaunches) leaf.a_name (Some (kind_of fixed.RightRound))
     unfolding st.launches
     launches_at le = convert (λ v w x ls o q. launches_in q) (commas (ss.launch_by limit p so) part_keeps refl (launch_at le refl))
 
@@ -222,12 +222,12 @@ module _ (limit : ℕ) where
       one_stops n sort.Simple i e deep small h = acting_at.refused i e deep small h
       one_stops n sort.Nothing i e deep small h = refused_here (least_said i.level) (cc)
 
-    one_at : Speaks low (st.one limit p)
-    unfolding st.one
+    one_at : Speaks low (st.one_statement limit p)
+    unfolding st.one_statement
     one_at u top k n = record { refused = λ i e deep small h. one_stops u top n (sort_of (kind_ahead i.rest)) i e deep small h; least = least_said }
 
   -- A statement is refused after the front of one, where the depth lasts up to the limit of levels.
-  pub viable_stmt : (d low : ℕ) → limit < d + low → Speaks low (stmt limit d)
-  unfolding stmt
+  pub viable_stmt : (d low : ℕ) → limit < d + low → Speaks low (read_statement limit d)
+  unfolding read_statement
   viable_stmt zero low deep u top k n = record { refused = λ i e le small h. absurd (omega arith); least = least_said }
-  viable_stmt (suc d) low deep u top k n = one_at (stmt limit d) (sound_stmt limit d) low (viable_stmt d (low + 1) (omega arith)) u top k n
+  viable_stmt (suc d) low deep u top k n = one_at (read_statement limit d) (sound_stmt limit d) low (viable_stmt d (low + 1) (omega arith)) u top k n

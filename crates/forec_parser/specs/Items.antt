@@ -16,20 +16,20 @@ use Rattle.forec_parser.specs.declared.meaning.Opening.TheVariants as opening
 use Rattle.forec_parser.specs.declared.meaning.Declarator.{Declarator}
 use Rattle.forec_parser.specs.declared.meaning.Declarator.TheVariants as declarator
 use Rattle.expr_parser.specs.Input.{Parser, ◌>>=◌, ◌>>◌, pure, refuse, kind_ahead, at_end, take}
-use Rattle.forec_parser.specs.Meaning.{opening_of, policy_of}
-use Rattle.expr_parser.specs.Reading.{next_is, close, enclosed, name, number, separated}
-use Rattle.forec_parser.specs.Statements.{maybe_length, block, stmt}
+use Rattle.forec_parser.specs.Meaning.{opening_of, token_policy}
+use Rattle.expr_parser.specs.Reading.{next_is, close, enclosed, name, read_number, separated}
+use Rattle.forec_parser.specs.Statements.{maybe_length, block, read_statement}
 
 -- ---- values
 
-unfoldable pub negative : Parser Number
-negative = do
+unfoldable pub negative_number : Parser Number
+negative_number = do
   t ← close fixed.Minus
-  n ← number
+  n ← read_number
   pure (number_at (unary_of un.Minus n.value) t.place)
 
 unfoldable pub signed : Parser Number
-signed = λ i. if next_is fixed.Minus i then negative i else number i
+signed = λ i. if next_is fixed.Minus i then negative_number i else read_number i
 
 unfoldable pub one_value : Parser (List Number)
 one_value = do
@@ -47,10 +47,10 @@ policy_by (Some p) = do
 policy_by None = refuse
 
 unfoldable pub policy : Parser Policy
-policy = λ i. policy_by (policy_of (kind_ahead i.rest)) i
+policy = λ i. policy_by (token_policy (kind_ahead i.rest)) i
 
-abbrev pub combine_of : Policy → Name → Combine
-combine_of policy with = record { policy = policy; with = with }
+abbrev pub combine_with : Policy → Name → Combine
+combine_with policy with = record { policy = policy; with = with }
 
 unfoldable pub combines : Parser Combine
 combines = do
@@ -58,7 +58,7 @@ combines = do
   p ← policy
   close fixed.With
   n ← name
-  pure (combine_of p n)
+  pure (combine_with p n)
 
 unfoldable pub param : Parser Name
 param = do
@@ -104,12 +104,12 @@ module _ (limit : ℕ) where
     found ← maybe_value
     pure (IsGlobal (global_of k None n None found))
 
-  unfoldable pub declared : Declarator → Parser PlainItem
-  declared d = declared_by d
+  unfoldable pub declared_item : Declarator → Parser PlainItem
+  declared_item d = declared_by d
 
   unfoldable pub globals : Declarator → Parser (List PlainItem)
   globals d = do
-    found ← separated (declared d)
+    found ← separated (declared_item d)
     close fixed.Semicolon
     pure found
 
@@ -147,11 +147,11 @@ module _ (limit : ℕ) where
   unfoldable pub function : Bool → Name → Parser (List PlainItem)
   function gives n = do
     ps ← parameters
-    b ← block limit (stmt limit (suc limit))
+    b ← block limit (read_statement limit (suc limit))
     pure (IsFunction (record { name = n; gives = gives; params = ps; body = in_order b.1 }) ∷ [])
 
   unfoldable pub more_globals : Parser (List PlainItem)
-  more_globals = λ i. if next_is fixed.Comma i then (close fixed.Comma >> separated (declared (declarator.Valued kind.Plain))) i else pure [] i
+  more_globals = λ i. if next_is fixed.Comma i then (close fixed.Comma >> separated (declared_item (declarator.Valued kind.Plain))) i else pure [] i
 
   -- plain globals after the first name
   unfoldable pub plain_globals : Name → Parser (List PlainItem)
@@ -171,8 +171,8 @@ module _ (limit : ℕ) where
     close fixed.Shared
     (λ i. if next_is fixed.Output i then shared_output i else shared kind.Shared i)
 
-  unfoldable pub numbers : Parser (List PlainItem)
-  numbers = do
+  unfoldable pub int_item : Parser (List PlainItem)
+  int_item = do
     close fixed.Int
     n ← name
     (λ i. if next_is fixed.LeftRound i then function true n i else plain_globals n i)
@@ -186,7 +186,7 @@ module _ (limit : ℕ) where
     ints declarator.Bare
   item_by opening.Output = outputs
   item_by opening.Shared = shared_globals
-  item_by opening.Int = numbers
+  item_by opening.Int = int_item
   item_by opening.Void = do
     close fixed.Void
     n ← name

@@ -32,9 +32,9 @@ update_of None = None
 update_of (Some k) = updates_by k
 
 -- the operator of `++` and `--`
-abbrev pub step_of : Option TokenKind → Option Binary
-step_of None = None
-step_of (Some k) = steps_by k
+abbrev pub token_step : Option TokenKind → Option Binary
+token_step None = None
+token_step (Some k) = steps_by k
 
 -- how a target is changed
 abbrev pub change_of : Option TokenKind → Change
@@ -90,8 +90,8 @@ opening_of (Some (kind.Word word.Int)) = opening.Int
 opening_of (Some (kind.Word word.Void)) = opening.Void
 opening_of _ = opening.Nothing
 
-abbrev pub policy_of : Option TokenKind → Option Policy
-policy_of (Some (kind.Word word.All)) = Some policy.All
-policy_of (Some (kind.Word word.New)) = Some policy.New
-policy_of (Some (kind.Word word.Mod)) = Some policy.Mod
-policy_of _ = None
+abbrev pub token_policy : Option TokenKind → Option Policy
+token_policy (Some (kind.Word word.All)) = Some policy.All
+token_policy (Some (kind.Word word.New)) = Some policy.New
+token_policy (Some (kind.Word word.Mod)) = Some policy.Mod
+token_policy _ = None

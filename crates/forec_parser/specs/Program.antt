@@ -12,24 +12,24 @@ use Rattle.expr_parser.specs.Input.{Input, Outcome, max_level}
 use Rattle.forec_parser.specs.ViablePrefixes.{StopsAt, OpensAt}
 
 -- What is answered where the tokens spell the text: it, unless memory fails.
-abbrev pub Answers : Text → Result Program ParseFault → Type 0
-Answers text (Ok p) = program p ≡ text
-Answers text (Err f) = f ≡ OutOfMemory
+abbrev pub AnswersProgram : Text → Result Program ParseFault → Type 0
+AnswersProgram text (Ok p) = program p ≡ text
+AnswersProgram text (Err f) = f ≡ OutOfMemory
 
 -- What is read of all tokens is the outcome of reading items, unless memory fails.
-pub record Ends (outcome : Outcome Text) (p : Program) : Type 0 where
+pub record ReadsProgram (outcome : Outcome Text) (p : Program) : Type 0 where
   pub state : Input
   pub reads : outcome ≡ Ok (program p, state)
 
-abbrev pub Gives : Outcome Text → Result Program Fault → Type 0
-Gives outcome (Ok p) = Ends outcome p
-Gives outcome (Err f) = f ≢ inner.OutOfMemory → outcome ≡ Err f
+abbrev pub GivesProgram : Outcome Text → Result Program Fault → Type 0
+GivesProgram outcome (Ok p) = ReadsProgram outcome p
+GivesProgram outcome (Err f) = f ≢ inner.OutOfMemory → outcome ≡ Err f
 
 -- Why no program is read. Want of memory has no cause in the tokens.
-abbrev pub HasCause : List Token → ParseFault → Type 0
-HasCause ts (Syntax token) = StopsAt max_level ts token
-HasCause ts (Deep token) = OpensAt max_level ts token
-HasCause ts OutOfMemory = Unit {0}
+abbrev pub HasParseCause : List Token → ParseFault → Type 0
+HasParseCause ts (Syntax token) = StopsAt max_level ts token
+HasParseCause ts (Deep token) = OpensAt max_level ts token
+HasParseCause ts OutOfMemory = Unit {0}
 
 -- what the caller is told of a fault, of so many tokens
 abbrev pub told_of : ℕ → Fault → ParseFault

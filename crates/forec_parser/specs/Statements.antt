@@ -7,7 +7,7 @@ use Rattle.forec_tree.specs.declared.tree.Name.{Name}
 use Rattle.forec_tree.specs.declared.tree.Number.{Number}
 use Rattle.forec_tree.specs.declared.tree.OpAt.{OpAt}
 use Rattle.forec_tree.specs.Terms as plain
-use Rattle.forec_tree.specs.Terms.{Term, Declared, Written, Statement, Perhaps, absent, present}
+use Rattle.forec_tree.specs.Terms.{Term, Declared, PlainTarget, Statement, Perhaps, absent, present}
 use Rattle.forec_tree.specs.Spelling.{listed}
 use Rattle.forec_tree.specs.Parts.{op_at, written_at, declared_as, in_order, Launch, Calls, Blocks, launched, Head, head_of}
 use Rattle.expr_parser.specs.declared.fault.Fault.TheVariants.{Deep}
@@ -20,9 +20,9 @@ use Rattle.forec_parser.specs.declared.meaning.Act.TheVariants as act
 use Rattle.forec_parser.specs.declared.meaning.Sort.{Sort}
 use Rattle.forec_parser.specs.declared.meaning.Sort.TheVariants as sort
 use Rattle.expr_parser.specs.Input.{Parser, ◌>>=◌, ◌>>◌, pure, refuse, scoped, kind_ahead, take}
-use Rattle.forec_parser.specs.Meaning.{update_of, step_of, change_of, act_of, sort_of, ends_body}
+use Rattle.forec_parser.specs.Meaning.{update_of, token_step, change_of, act_of, sort_of, ends_body}
 use Rattle.expr_parser.specs.Reading as expression
-use Rattle.expr_parser.specs.Reading.{next_is, close, enter, enclosed, name, number, separated, expr}
+use Rattle.expr_parser.specs.Reading.{next_is, close, enter, enclosed, name, read_number, separated, read_expression}
 
 abbrev pub op_by : Option Binary → Parser OpAt
 op_by (Some op) = do
@@ -34,70 +34,70 @@ unfoldable pub update : Parser OpAt
 update = λ i. op_by (update_of (kind_ahead i.rest)) i
 
 unfoldable pub step_mark : Parser OpAt
-step_mark = λ i. op_by (step_of (kind_ahead i.rest)) i
+step_mark = λ i. op_by (token_step (kind_ahead i.rest)) i
 
 -- whether this token is there
 unfoldable pub flag : Fixed → Parser Bool
 flag f = λ i. if next_is f i then (close f >>= λ _. pure true) i else pure false i
 
 module _ (limit : ℕ) where
-  unfoldable pub value : Parser Term
-  value = expression.value limit (expr limit (suc limit))
+  unfoldable pub whole_expression : Parser Term
+  whole_expression = expression.value limit (read_expression limit (suc limit))
 
   unfoldable pub values : Parser (List Term)
-  values = separated (expression.value limit (expr limit (suc limit)))
+  values = separated (expression.value limit (read_expression limit (suc limit)))
 
-  unfoldable pub bracketed : Parser Term
-  bracketed = expression.bracketed limit (expr limit (suc limit))
+  unfoldable pub bracketed_expression : Parser Term
+  bracketed_expression = expression.bracketed limit (read_expression limit (suc limit))
 
-  unfoldable pub indexed : Parser Term
-  indexed = expression.indexed limit (expr limit (suc limit))
+  unfoldable pub index_expression : Parser Term
+  index_expression = expression.indexed limit (read_expression limit (suc limit))
 
-  unfoldable pub passed : Parser (List Term)
-  passed = expression.passed limit (expr limit (suc limit))
+  unfoldable pub passed_expressions : Parser (List Term)
+  passed_expressions = expression.passed limit (read_expression limit (suc limit))
 
   -- ---- simple statements
 
   unfoldable pub maybe_index : Parser (Option Term)
-  maybe_index = λ i. if next_is fixed.LeftSquare i then (indexed >>= λ x. pure (Some x)) i else pure None i
+  maybe_index = λ i. if next_is fixed.LeftSquare i then (index_expression >>= λ x. pure (Some x)) i else pure None i
 
-  unfoldable pub target : Parser Written
+  unfoldable pub target : Parser PlainTarget
   target = do
     n ← name
     index ← maybe_index
     pure (written_at n index)
 
-  abbrev pub changed_by : Change → Written → Parser Statement
+  abbrev pub changed_by : Change → PlainTarget → Parser Statement
   changed_by change.Sets to = do
     close fixed.Assign
-    x ← value
+    x ← whole_expression
     pure (plain.Assign to.name.place to None x)
   changed_by change.Updates to = do
     op ← update
-    x ← value
+    x ← whole_expression
     pure (plain.Assign to.name.place to (Some op) x)
   changed_by change.Increments to = do
     op ← step_mark
     pure (plain.Assign to.name.place to (Some op) (plain.Num op.place (pos 1)))
   changed_by change.Nothing to = refuse
 
-  unfoldable pub changed : Written → Parser Statement
+  unfoldable pub changed : PlainTarget → Parser Statement
   changed to = λ i. changed_by (change_of (kind_ahead i.rest)) to i
 
   unfoldable pub invoked : Name → Parser Statement
   invoked n = do
-    args ← passed
+    args ← passed_expressions
     pure (plain.Invoke n.place n (listed args))
 
-  unfoldable pub assigned : Name → Parser Statement
-  assigned n = do
+  unfoldable pub assign_statement : Name → Parser Statement
+  assign_statement n = do
     index ← maybe_index
     changed (written_at n index)
 
-  unfoldable pub named : Parser Statement
-  named = do
+  unfoldable pub named_statement : Parser Statement
+  named_statement = do
     n ← name
-    (λ i. if next_is fixed.LeftRound i then invoked n i else assigned n i)
+    (λ i. if next_is fixed.LeftRound i then invoked n i else assign_statement n i)
 
   unfoldable pub stepped : Parser Statement
   stepped = do
@@ -106,7 +106,7 @@ module _ (limit : ℕ) where
     pure (plain.Assign op.place found (Some op) (plain.Num op.place (pos 1)))
 
   abbrev pub simple_by : Act → Parser Statement
-  simple_by act.Named = named
+  simple_by act.Named = named_statement
   simple_by act.Increments = stepped
   simple_by act.Nothing = refuse
 
@@ -115,18 +115,18 @@ module _ (limit : ℕ) where
 
   -- ---- declarations
 
-  unfoldable pub array_length : Parser Number
-  array_length = enclosed limit fixed.LeftSquare fixed.RightSquare (λ _ n. n) number
+  unfoldable pub length_part : Parser Number
+  length_part = enclosed limit fixed.LeftSquare fixed.RightSquare (λ _ n. n) read_number
 
   unfoldable pub maybe_length : Parser (Option Number)
-  maybe_length = λ i. if next_is fixed.LeftSquare i then (array_length >>= λ n. pure (Some n)) i else pure None i
+  maybe_length = λ i. if next_is fixed.LeftSquare i then (length_part >>= λ n. pure (Some n)) i else pure None i
 
   unfoldable pub listed_values : Parser (List Term)
   listed_values = enclosed limit fixed.LeftCurly fixed.RightCurly (λ _ xs. xs) values
 
   abbrev pub initial_by : Option Number → Parser (List Term)
   initial_by None = do
-    x ← value
+    x ← whole_expression
     pure (x ∷ [])
   initial_by (Some n) = listed_values
 
@@ -143,35 +143,35 @@ module _ (limit : ℕ) where
   -- ---- loops
 
   unfoldable pub bound : Parser (Option Number)
-  bound = λ i. if next_is fixed.Hash i then (close fixed.Hash >> number >>= λ n. pure (Some n)) i else pure None i
+  bound = λ i. if next_is fixed.Hash i then (close fixed.Hash >> read_number >>= λ n. pure (Some n)) i else pure None i
 
   unfoldable pub first_local : Parser Perhaps
   first_local = do
     int ← close fixed.Int
     n ← name
     close fixed.Assign
-    x ← value
+    x ← whole_expression
     pure (present (plain.Declare int.place (declared_as n None (x ∷ []) ∷ [])))
 
   unfoldable pub some_start : Parser Perhaps
   some_start = λ i. if next_is fixed.Int i then first_local i else (simple >>= λ x. pure (present x)) i
 
-  unfoldable pub start : Parser Perhaps
-  start = λ i. if next_is fixed.Semicolon i then pure absent i else some_start i
+  unfoldable pub start_part : Parser Perhaps
+  start_part = λ i. if next_is fixed.Semicolon i then pure absent i else some_start i
 
   unfoldable pub loop_test : Parser (Option Term)
-  loop_test = λ i. if next_is fixed.Semicolon i then pure None i else (value >>= λ x. pure (Some x)) i
+  loop_test = λ i. if next_is fixed.Semicolon i then pure None i else (whole_expression >>= λ x. pure (Some x)) i
 
-  unfoldable pub step : Parser Perhaps
-  step = λ i. if next_is fixed.RightRound i then pure absent i else (simple >>= λ x. pure (present x)) i
+  unfoldable pub step_part : Parser Perhaps
+  step_part = λ i. if next_is fixed.RightRound i then pure absent i else (simple >>= λ x. pure (present x)) i
 
   unfoldable pub head_parts : Parser Head
   head_parts = do
-    first ← start
+    first ← start_part
     close fixed.Semicolon
     second ← loop_test
     close fixed.Semicolon
-    third ← step
+    third ← step_part
     pure (head_of first second third)
 
   unfoldable pub head : Parser Head
@@ -201,15 +201,15 @@ module _ (limit : ℕ) where
   unfoldable pub return_statement : Parser Statement
   return_statement = do
     t ← close fixed.Return
-    x ← value
+    x ← whole_expression
     close fixed.Semicolon
     pure (plain.Return t.place x)
 
   unfoldable pub maybe_passed : Parser (List Term)
-  maybe_passed = λ i. if next_is fixed.LeftRound i then passed i else pure [] i
+  maybe_passed = λ i. if next_is fixed.LeftRound i then passed_expressions i else pure [] i
 
-  unfoldable pub called : Parser Launch
-  called = do
+  unfoldable pub call_launch : Parser Launch
+  call_launch = do
     n ← name
     args ← maybe_passed
     pure (Calls n (listed args))
@@ -241,14 +241,14 @@ module _ (limit : ℕ) where
     unfoldable pub if_statement : Parser Statement
     if_statement = scoped (do
       t ← enter limit fixed.If
-      test ← bracketed
+      test ← bracketed_expression
       first ← stmt
       (λ i. if next_is fixed.Else i then otherwise t test first i else pure (plain.If t.place test first absent) i))
 
     unfoldable pub while_statement : Parser Statement
     while_statement = scoped (do
       t ← enter limit fixed.While
-      test ← bracketed
+      test ← bracketed_expression
       turns ← bound
       x ← stmt
       pure (plain.While t.place test turns x))
@@ -262,7 +262,7 @@ module _ (limit : ℕ) where
       pure (plain.For t.place h.start h.test h.step turns x))
 
     unfoldable pub launch : Parser Launch
-    launch = λ i. if next_is fixed.LeftCurly i then (block >>= λ b. pure (Blocks b.0 (in_order b.1))) i else called i
+    launch = λ i. if next_is fixed.LeftCurly i then (block >>= λ b. pure (Blocks b.0 (in_order b.1))) i else call_launch i
 
     unfoldable pub launches : Parser (List Launch)
     launches = separated launch
@@ -280,7 +280,7 @@ module _ (limit : ℕ) where
       b ← block
       close fixed.When
       immediate ← flag fixed.Immediate
-      test ← bracketed
+      test ← bracketed_expression
       close fixed.Semicolon
       pure (plain.Abort t.place weak immediate test (in_order b.1)))
 
@@ -303,10 +303,10 @@ module _ (limit : ℕ) where
     one_by sort.Simple = acting
     one_by sort.Nothing = refuse
 
-    unfoldable pub one : Parser Statement
-    one = λ i. one_by (sort_of (kind_ahead i.rest)) i
+    unfoldable pub one_statement : Parser Statement
+    one_statement = λ i. one_by (sort_of (kind_ahead i.rest)) i
 
 -- with statements nested no deeper than the second number
-unfoldable pub stmt : ℕ → ℕ → Parser Statement
-stmt limit zero = λ i. Err (Deep (length i.rest))
-stmt limit (suc depth) = one limit (stmt limit depth)
+unfoldable pub read_statement : ℕ → ℕ → Parser Statement
+read_statement limit zero = λ i. Err (Deep (length i.rest))
+read_statement limit (suc depth) = one_statement limit (read_statement limit depth)

@@ -20,16 +20,16 @@ abbrev pub optional_term_in : Option (Box Expr Global) → Option Term
 optional_term_in None = None
 optional_term_in (Some b) = Some (term_in b)
 
-abbrev pub perhaps_of : Option (Box Stmt Global) → Perhaps
-perhaps_of None = absent
-perhaps_of (Some b) = present (statement_in b)
+abbrev pub perhaps_in : Option (Box Stmt Global) → Perhaps
+perhaps_in None = absent
+perhaps_in (Some b) = present (statement_in b)
 
 abbrev pub launch_of : Branch → Launch
 launch_of (branch.Call name args) = Calls name (terms args)
 launch_of (branch.Group' place shape body) = Blocks place (statement_row body)
 
-abbrev pub block_of : Block → Place × List Statement
-block_of b = (b.place, map statement b.body)
+abbrev pub block_statements : Block → Place × List Statement
+block_statements b = (b.place, map statement b.body)
 
 abbrev pub head_view : ForHead → Head
-head_view h = record { start = perhaps_of h.start; test = optional_term_in h.test; step = perhaps_of h.step }
+head_view h = record { start = perhaps_in h.start; test = optional_term_in h.test; step = perhaps_in h.step }

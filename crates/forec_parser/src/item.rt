@@ -44,9 +44,9 @@ fn table(alloc: Global, tokens: &mut Tokens<'_>) -> Result<Item, Fault>
 }
 
 /// One declarator of a global.
-#[tactic(auto, unfolding(crate::specs::Items::declared))]
+#[tactic(auto, unfolding(crate::specs::Items::declared_item))]
 fn declared(alloc: Global, tokens: &mut Tokens<'_>, declarator: Declarator) -> Result<Item, Fault>
-    ensures { Reads plain_item (spec.declared max_level declarator tokens.old) result tokens.new }
+    ensures { Reads plain_item (spec.declared_item max_level declarator tokens.old) result tokens.new }
 {
     match declarator {
         Declarator::Table => table(alloc, tokens),
@@ -84,7 +84,7 @@ fn declared_list(
     tokens: &mut Tokens<'_>,
     declarator: Declarator,
 ) -> Result<Items<Item>, Fault>
-    ensures { Reads (map plain_item) (separated (spec.declared max_level declarator) tokens.old) result tokens.new }
+    ensures { Reads (map plain_item) (separated (spec.declared_item max_level declarator) tokens.old) result tokens.new }
 {
     let mut found = Items::new(alloc);
     for _turn in 0..tokens.left() {
@@ -332,9 +332,9 @@ fn shared_globals(alloc: Global, tokens: &mut Tokens<'_>) -> Result<Items<Item>,
 }
 
 /// An item that begins with `int`.
-#[tactic(auto, unfolding(crate::specs::Items::numbers))]
+#[tactic(auto, unfolding(crate::specs::Items::int_item))]
 fn numbers(alloc: Global, tokens: &mut Tokens<'_>) -> Result<Items<Item>, Fault>
-    ensures { Reads (map plain_item) (spec.numbers max_level tokens.old) result tokens.new }
+    ensures { Reads (map plain_item) (spec.int_item max_level tokens.old) result tokens.new }
 {
     tokens.close(Fixed::Int)?;
     let name = tokens.name()?;

@@ -94,7 +94,7 @@ pub fn update_of(kind: Option<TokenKind>) -> Option<Binary>
 }
 
 fn step_mark(mark: Mark) -> Option<Binary>
-    ensures { result ≡ spec.step_of (Some (TokenKind.Mark mark)) }
+    ensures { result ≡ spec.token_step (Some (TokenKind.Mark mark)) }
 {
     match mark {
         Mark::PlusPlus => Some(Binary::Add),
@@ -105,7 +105,7 @@ fn step_mark(mark: Mark) -> Option<Binary>
 
 /// The operator of `++` and `--`.
 pub fn step_of(kind: Option<TokenKind>) -> Option<Binary>
-    ensures { result ≡ spec.step_of kind }
+    ensures { result ≡ spec.token_step kind }
 {
     match kind {
         Some(TokenKind::Mark { mark }) => step_mark(mark),
@@ -231,7 +231,7 @@ pub fn opening_of(kind: Option<TokenKind>) -> Opening
 }
 
 fn policy_word(word: Word) -> Option<Policy>
-    ensures { result ≡ spec.policy_of (Some (TokenKind.Word word)) }
+    ensures { result ≡ spec.token_policy (Some (TokenKind.Word word)) }
 {
     match word {
         Word::All => Some(Policy::All),
@@ -243,7 +243,7 @@ fn policy_word(word: Word) -> Option<Policy>
 
 /// The policy that the token names.
 pub fn policy_of(kind: Option<TokenKind>) -> Option<Policy>
-    ensures { result ≡ spec.policy_of kind }
+    ensures { result ≡ spec.token_policy kind }
 {
     match kind {
         Some(TokenKind::Word { word }) => policy_word(word),

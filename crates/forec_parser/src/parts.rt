@@ -2,12 +2,12 @@
 
 ghost use Rattle.std.specs.Prelude.{◌≡◌, [], ◌∷◌, IfOk, map, pos};
 ghost use Rattle.forec_tree.specs.Terms as plain;
-ghost use Rattle.forec_tree.specs.Plain.{term, statement, declared, written, optional_term, plain_item};
+ghost use Rattle.forec_tree.specs.Plain.{term, statement, declared, written_target, optional_term, plain_item};
 ghost use Rattle.forec_tree.specs.Terms.{IsFunction};
 ghost use Rattle.forec_tree.specs.Spelling.{listed};
 ghost use Rattle.forec_tree.specs.Parts.{written_at, declared_as, in_order, launched, Calls, Blocks};
 ghost use Rattle.expr_parser.specs.Boxes.{term_in};
-ghost use Rattle.forec_parser.specs.Views.{optional_term_in, statement_in, perhaps_of, launch_of};
+ghost use Rattle.forec_parser.specs.Views.{optional_term_in, statement_in, perhaps_in, launch_of};
 
 use forec_base::Place;
 use forec_tree::{
@@ -111,7 +111,7 @@ pub fn first_local(
 
 /// What is written to: a variable, or an element of an array.
 pub fn target(name: Name, index: Option<Box<Expr>>) -> Target
-    ensures { written result ≡ written_at name (optional_term_in index) }
+    ensures { written_target result ≡ written_at name (optional_term_in index) }
 {
     Target {
         name,
@@ -121,7 +121,7 @@ pub fn target(name: Name, index: Option<Box<Expr>>) -> Target
 
 /// An assignment, with the operator of `+=` and its kin if it is one.
 pub fn assign(target: Target, op: Option<OpAt>, value: Box<Expr>) -> Stmt
-    ensures { statement result ≡ plain.Assign target.name.place (written target) op (term_in value) }
+    ensures { statement result ≡ plain.Assign target.name.place (written_target target) op (term_in value) }
 {
     Stmt {
         place: target.name.place,
@@ -135,7 +135,7 @@ pub fn assign(target: Target, op: Option<OpAt>, value: Box<Expr>) -> Stmt
 
 /// `x++` and its kin, which add or subtract the number 1.
 pub fn step(place: Place, target: Target, op: OpAt) -> Stmt
-    ensures { statement result ≡ plain.Assign place (written target) (Some op) (plain.Num op.place (pos 1)) }
+    ensures { statement result ≡ plain.Assign place (written_target target) (Some op) (plain.Num op.place (pos 1)) }
 {
     let one = Expr {
         place: op.place,
@@ -163,7 +163,7 @@ pub fn invoke(name: Name, args: Items<Expr>) -> Stmt
 
 /// `if`, with what stands after `else` if there is one.
 pub fn if_of(place: Place, test: Box<Expr>, yes: Box<Stmt>, no: Option<Box<Stmt>>) -> Stmt
-    ensures { statement result ≡ plain.If place (term_in test) (statement_in yes) (perhaps_of no) }
+    ensures { statement result ≡ plain.If place (term_in test) (statement_in yes) (perhaps_in no) }
 {
     Stmt {
         place,
@@ -191,7 +191,7 @@ pub fn while_of(place: Place, test: Box<Expr>, bound: Option<Number>, body: Box<
 
 /// `for`
 pub fn for_of(place: Place, head: ForHead, bound: Option<Number>, body: Box<Stmt>) -> Stmt
-    ensures { statement result ≡ plain.For place (perhaps_of head.start) (optional_term_in head.test) (perhaps_of head.step) bound (statement_in body) }
+    ensures { statement result ≡ plain.For place (perhaps_in head.start) (optional_term_in head.test) (perhaps_in head.step) bound (statement_in body) }
 {
     let ForHead { start, test, step } = head;
     Stmt {

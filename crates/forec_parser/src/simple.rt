@@ -4,12 +4,12 @@ ghost use Rattle.std.specs.Prelude.{◌≡◌, [], ◌∷◌, map, Option, Bool}
 ghost use Rattle.forec_tree.specs.declared.tree.Number.{Number};
 ghost use Rattle.forec_tree.specs.declared.tree.OpAt.{OpAt};
 ghost use Rattle.forec_tree.specs.Parts.{written_at};
-ghost use Rattle.forec_tree.specs.Plain.{term, statement, declared, written};
+ghost use Rattle.forec_tree.specs.Plain.{term, statement, declared, written_target};
 ghost use Rattle.expr_parser.specs.Boxes.{term_in};
 ghost use Rattle.expr_parser.specs.Input.{Reads, max_level};
 ghost use Rattle.expr_parser.specs.Reading.{separated};
 ghost use Rattle.forec_parser.specs.Statements as spec;
-ghost use Rattle.forec_parser.specs.Views.{optional_term_in, statement_in, perhaps_of, launch_of, head_view};
+ghost use Rattle.forec_parser.specs.Views.{optional_term_in, statement_in, perhaps_in, launch_of, head_view};
 
 use crate::meaning::{Act, Change, act_of, change_of, step_of, update_of};
 use crate::parts::{self, ForHead};
@@ -22,9 +22,9 @@ use std::alloc::Global;
 const EXPR_DEPTH: usize = 129;
 
 /// An expression of its own.
-#[tactic(auto, unfolding(crate::specs::Statements::value))]
+#[tactic(auto, unfolding(crate::specs::Statements::whole_expression))]
 pub fn value(alloc: Global, tokens: &mut Tokens<'_>) -> Result<Box<Expr>, Fault>
-    ensures { Reads term_in (spec.value max_level tokens.old) result tokens.new }
+    ensures { Reads term_in (spec.whole_expression max_level tokens.old) result tokens.new }
 {
     expr_parser::value(alloc, tokens, EXPR_DEPTH)
 }
@@ -37,23 +37,23 @@ fn values(alloc: Global, tokens: &mut Tokens<'_>) -> Result<Items<Expr>, Fault>
 }
 
 /// An expression between round brackets.
-#[tactic(auto, unfolding(crate::specs::Statements::bracketed))]
+#[tactic(auto, unfolding(crate::specs::Statements::bracketed_expression))]
 pub fn bracketed(alloc: Global, tokens: &mut Tokens<'_>) -> Result<Box<Expr>, Fault>
-    ensures { Reads term_in (spec.bracketed max_level tokens.old) result tokens.new }
+    ensures { Reads term_in (spec.bracketed_expression max_level tokens.old) result tokens.new }
 {
     expr_parser::bracketed(alloc, tokens, EXPR_DEPTH)
 }
 
-#[tactic(auto, unfolding(crate::specs::Statements::indexed))]
+#[tactic(auto, unfolding(crate::specs::Statements::index_expression))]
 fn indexed(alloc: Global, tokens: &mut Tokens<'_>) -> Result<Box<Expr>, Fault>
-    ensures { Reads term_in (spec.indexed max_level tokens.old) result tokens.new }
+    ensures { Reads term_in (spec.index_expression max_level tokens.old) result tokens.new }
 {
     expr_parser::indexed(alloc, tokens, EXPR_DEPTH)
 }
 
-#[tactic(auto, unfolding(crate::specs::Statements::passed))]
+#[tactic(auto, unfolding(crate::specs::Statements::passed_expressions))]
 fn passed(alloc: Global, tokens: &mut Tokens<'_>) -> Result<Items<Expr>, Fault>
-    ensures { Reads (map term) (spec.passed max_level tokens.old) result tokens.new }
+    ensures { Reads (map term) (spec.passed_expressions max_level tokens.old) result tokens.new }
 {
     expr_parser::passed(alloc, tokens, EXPR_DEPTH)
 }
@@ -104,7 +104,7 @@ fn maybe_index(alloc: Global, tokens: &mut Tokens<'_>) -> Result<Option<Box<Expr
 
 #[tactic(auto, unfolding(crate::specs::Statements::target))]
 fn target(alloc: Global, tokens: &mut Tokens<'_>) -> Result<Target, Fault>
-    ensures { Reads written (spec.target max_level tokens.old) result tokens.new }
+    ensures { Reads written_target (spec.target max_level tokens.old) result tokens.new }
 {
     let name = tokens.name()?;
     let index = maybe_index(alloc, tokens)?;
@@ -148,17 +148,17 @@ fn invoked(alloc: Global, tokens: &mut Tokens<'_>, name: Name) -> Result<Stmt, F
     Ok(parts::invoke(name, args))
 }
 
-#[tactic(auto, unfolding(crate::specs::Statements::assigned))]
+#[tactic(auto, unfolding(crate::specs::Statements::assign_statement))]
 fn assigned(alloc: Global, tokens: &mut Tokens<'_>, name: Name) -> Result<Stmt, Fault>
-    ensures { Reads statement (spec.assigned max_level name tokens.old) result tokens.new }
+    ensures { Reads statement (spec.assign_statement max_level name tokens.old) result tokens.new }
 {
     let index = maybe_index(alloc, tokens)?;
     changed(alloc, tokens, name, index)
 }
 
-#[tactic(auto, unfolding(crate::specs::Statements::named))]
+#[tactic(auto, unfolding(crate::specs::Statements::named_statement))]
 fn named(alloc: Global, tokens: &mut Tokens<'_>) -> Result<Stmt, Fault>
-    ensures { Reads statement (spec.named max_level tokens.old) result tokens.new }
+    ensures { Reads statement (spec.named_statement max_level tokens.old) result tokens.new }
 {
     let name = tokens.name()?;
     if tokens.next_is(Fixed::LeftRound) {
@@ -198,9 +198,9 @@ fn simple(alloc: Global, tokens: &mut Tokens<'_>) -> Result<Box<Stmt>, Fault>
 }
 
 /// An array's length, with its square brackets.
-#[tactic(auto, unfolding(crate::specs::Statements::array_length))]
+#[tactic(auto, unfolding(crate::specs::Statements::length_part))]
 pub fn array_length(tokens: &mut Tokens<'_>) -> Result<Number, Fault>
-    ensures { Reads (λ (n : Number). n) (spec.array_length max_level tokens.old) result tokens.new }
+    ensures { Reads (λ (n : Number). n) (spec.length_part max_level tokens.old) result tokens.new }
 {
     let outer = tokens.level();
     tokens.enter(Fixed::LeftSquare)?;
@@ -313,7 +313,7 @@ pub fn flag(tokens: &mut Tokens<'_>, fixed: Fixed) -> Result<bool, Fault>
 
 #[tactic(auto, unfolding(crate::specs::Statements::first_local))]
 fn first_local(alloc: Global, tokens: &mut Tokens<'_>) -> Result<Option<Box<Stmt>>, Fault>
-    ensures { Reads perhaps_of (spec.first_local max_level tokens.old) result tokens.new }
+    ensures { Reads perhaps_in (spec.first_local max_level tokens.old) result tokens.new }
 {
     let token = tokens.close(Fixed::Int)?;
     let name = tokens.name()?;
@@ -325,7 +325,7 @@ fn first_local(alloc: Global, tokens: &mut Tokens<'_>) -> Result<Option<Box<Stmt
 
 #[tactic(auto, unfolding(crate::specs::Statements::some_start))]
 fn some_start(alloc: Global, tokens: &mut Tokens<'_>) -> Result<Option<Box<Stmt>>, Fault>
-    ensures { Reads perhaps_of (spec.some_start max_level tokens.old) result tokens.new }
+    ensures { Reads perhaps_in (spec.some_start max_level tokens.old) result tokens.new }
 {
     if tokens.next_is(Fixed::Int) {
         first_local(alloc, tokens)
@@ -335,9 +335,9 @@ fn some_start(alloc: Global, tokens: &mut Tokens<'_>) -> Result<Option<Box<Stmt>
     }
 }
 
-#[tactic(auto, unfolding(crate::specs::Statements::start))]
+#[tactic(auto, unfolding(crate::specs::Statements::start_part))]
 fn start(alloc: Global, tokens: &mut Tokens<'_>) -> Result<Option<Box<Stmt>>, Fault>
-    ensures { Reads perhaps_of (spec.start max_level tokens.old) result tokens.new }
+    ensures { Reads perhaps_in (spec.start_part max_level tokens.old) result tokens.new }
 {
     if tokens.next_is(Fixed::Semicolon) {
         Ok(None)
@@ -358,9 +358,9 @@ fn test(alloc: Global, tokens: &mut Tokens<'_>) -> Result<Option<Box<Expr>>, Fau
     }
 }
 
-#[tactic(auto, unfolding(crate::specs::Statements::step))]
+#[tactic(auto, unfolding(crate::specs::Statements::step_part))]
 fn step(alloc: Global, tokens: &mut Tokens<'_>) -> Result<Option<Box<Stmt>>, Fault>
-    ensures { Reads perhaps_of (spec.step max_level tokens.old) result tokens.new }
+    ensures { Reads perhaps_in (spec.step_part max_level tokens.old) result tokens.new }
 {
     if tokens.next_is(Fixed::RightRound) {
         Ok(None)
@@ -441,9 +441,9 @@ fn maybe_passed(alloc: Global, tokens: &mut Tokens<'_>) -> Result<Items<Expr>, F
 }
 
 /// A branch that is a function.
-#[tactic(auto, unfolding(crate::specs::Statements::called))]
+#[tactic(auto, unfolding(crate::specs::Statements::call_launch))]
 pub fn called(alloc: Global, tokens: &mut Tokens<'_>) -> Result<Branch, Fault>
-    ensures { Reads launch_of (spec.called max_level tokens.old) result tokens.new }
+    ensures { Reads launch_of (spec.call_launch max_level tokens.old) result tokens.new }
 {
     let name = tokens.name()?;
     let args = maybe_passed(alloc, tokens)?;

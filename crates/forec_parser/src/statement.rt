@@ -5,7 +5,7 @@ ghost use Rattle.forec_tree.specs.Plain.{statement};
 ghost use Rattle.expr_parser.specs.Boxes.{term_in};
 ghost use Rattle.expr_parser.specs.Input.{Reads, max_level};
 ghost use Rattle.forec_parser.specs.Statements as spec;
-ghost use Rattle.forec_parser.specs.Views.{statement_in, launch_of, block_of};
+ghost use Rattle.forec_parser.specs.Views.{statement_in, launch_of, block_statements};
 
 use crate::meaning::{Sort, ends_body, sort_of};
 use crate::parts::{self, Block};
@@ -19,9 +19,9 @@ use std::alloc::Global;
 
 /// A statement in which others nest no deeper than `depth`.
 #[cycle(stmt)]
-#[tactic(auto, unfolding(crate::specs::Statements::stmt))]
+#[tactic(auto, unfolding(crate::specs::Statements::read_statement))]
 pub fn stmt(alloc: Global, tokens: &mut Tokens<'_>, depth: usize) -> Result<Stmt, Fault>
-    ensures { Reads statement (spec.stmt max_level depth tokens.old) result tokens.new }
+    ensures { Reads statement (spec.read_statement max_level depth tokens.old) result tokens.new }
 {
     if depth == 0 {
         return Err(tokens.too_deep());
@@ -30,9 +30,9 @@ pub fn stmt(alloc: Global, tokens: &mut Tokens<'_>, depth: usize) -> Result<Stmt
 }
 
 #[cycle(stmt)]
-#[tactic(auto, unfolding(crate::specs::Statements::one, crate::specs::Statements::group))]
+#[tactic(auto, unfolding(crate::specs::Statements::one_statement, crate::specs::Statements::group))]
 fn one(alloc: Global, tokens: &mut Tokens<'_>, depth: usize) -> Result<Stmt, Fault>
-    ensures { Reads statement (spec.one max_level (spec.stmt max_level depth) tokens.old) result tokens.new }
+    ensures { Reads statement (spec.one_statement max_level (spec.read_statement max_level depth) tokens.old) result tokens.new }
 {
     match sort_of(tokens.kind()) {
         Sort::Empty => {
@@ -63,7 +63,7 @@ fn one(alloc: Global, tokens: &mut Tokens<'_>, depth: usize) -> Result<Stmt, Fau
 /// A statement in a box of its own.
 #[cycle(stmt)]
 fn nested(alloc: Global, tokens: &mut Tokens<'_>, depth: usize) -> Result<Box<Stmt>, Fault>
-    ensures { Reads statement_in (spec.stmt max_level depth tokens.old) result tokens.new }
+    ensures { Reads statement_in (spec.read_statement max_level depth tokens.old) result tokens.new }
 {
     let found = stmt(alloc, tokens, depth)?;
     Ok(parts::boxed(alloc, found)?)
@@ -73,7 +73,7 @@ fn nested(alloc: Global, tokens: &mut Tokens<'_>, depth: usize) -> Result<Box<St
 #[cycle(stmt)]
 #[tactic(auto, unfolding(crate::specs::Statements::body, crate::specs::Statements::body_from))]
 fn body(alloc: Global, tokens: &mut Tokens<'_>, depth: usize) -> Result<Items<Stmt>, Fault>
-    ensures { Reads (map statement) (spec.body max_level (spec.stmt max_level depth) tokens.old) result tokens.new }
+    ensures { Reads (map statement) (spec.body max_level (spec.read_statement max_level depth) tokens.old) result tokens.new }
 {
     let mut found = Items::new(alloc);
     for _turn in 0..tokens.left() {
@@ -92,7 +92,7 @@ fn body(alloc: Global, tokens: &mut Tokens<'_>, depth: usize) -> Result<Items<St
 #[cycle(stmt)]
 #[tactic(auto, unfolding(crate::specs::Statements::block))]
 pub fn block(alloc: Global, tokens: &mut Tokens<'_>, depth: usize) -> Result<Block, Fault>
-    ensures { Reads block_of (spec.block max_level (spec.stmt max_level depth) tokens.old) result tokens.new }
+    ensures { Reads block_statements (spec.block max_level (spec.read_statement max_level depth) tokens.old) result tokens.new }
 {
     let outer = tokens.level();
     let token = tokens.enter(Fixed::LeftCurly)?;
@@ -108,7 +108,7 @@ pub fn block(alloc: Global, tokens: &mut Tokens<'_>, depth: usize) -> Result<Blo
 #[cycle(stmt)]
 #[tactic(auto, unfolding(crate::specs::Statements::if_statement))]
 fn if_statement(alloc: Global, tokens: &mut Tokens<'_>, depth: usize) -> Result<Stmt, Fault>
-    ensures { Reads statement (spec.if_statement max_level (spec.stmt max_level depth) tokens.old) result tokens.new }
+    ensures { Reads statement (spec.if_statement max_level (spec.read_statement max_level depth) tokens.old) result tokens.new }
 {
     let outer = tokens.level();
     let token = tokens.enter(Fixed::If)?;
@@ -134,7 +134,7 @@ fn otherwise(
     test: Box<Expr>,
     yes: Box<Stmt>,
 ) -> Result<Stmt, Fault>
-    ensures { Reads statement (spec.otherwise max_level (spec.stmt max_level depth) token (term_in test) (statement_in yes) tokens.old) result tokens.new }
+    ensures { Reads statement (spec.otherwise max_level (spec.read_statement max_level depth) token (term_in test) (statement_in yes) tokens.old) result tokens.new }
 {
     tokens.enter(Fixed::Else)?;
     let no = nested(alloc, tokens, depth)?;
@@ -144,7 +144,7 @@ fn otherwise(
 #[cycle(stmt)]
 #[tactic(auto, unfolding(crate::specs::Statements::while_statement))]
 fn while_statement(alloc: Global, tokens: &mut Tokens<'_>, depth: usize) -> Result<Stmt, Fault>
-    ensures { Reads statement (spec.while_statement max_level (spec.stmt max_level depth) tokens.old) result tokens.new }
+    ensures { Reads statement (spec.while_statement max_level (spec.read_statement max_level depth) tokens.old) result tokens.new }
 {
     let outer = tokens.level();
     let token = tokens.enter(Fixed::While)?;
@@ -158,7 +158,7 @@ fn while_statement(alloc: Global, tokens: &mut Tokens<'_>, depth: usize) -> Resu
 #[cycle(stmt)]
 #[tactic(auto, unfolding(crate::specs::Statements::for_statement))]
 fn for_statement(alloc: Global, tokens: &mut Tokens<'_>, depth: usize) -> Result<Stmt, Fault>
-    ensures { Reads statement (spec.for_statement max_level (spec.stmt max_level depth) tokens.old) result tokens.new }
+    ensures { Reads statement (spec.for_statement max_level (spec.read_statement max_level depth) tokens.old) result tokens.new }
 {
     let outer = tokens.level();
     let token = tokens.enter(Fixed::For)?;
@@ -172,7 +172,7 @@ fn for_statement(alloc: Global, tokens: &mut Tokens<'_>, depth: usize) -> Result
 #[cycle(stmt)]
 #[tactic(auto, unfolding(crate::specs::Statements::launch))]
 fn launch(alloc: Global, tokens: &mut Tokens<'_>, depth: usize) -> Result<Branch, Fault>
-    ensures { Reads launch_of (spec.launch max_level (spec.stmt max_level depth) tokens.old) result tokens.new }
+    ensures { Reads launch_of (spec.launch max_level (spec.read_statement max_level depth) tokens.old) result tokens.new }
 {
     if tokens.next_is(Fixed::LeftCurly) {
         let block = block(alloc, tokens, depth)?;
@@ -185,7 +185,7 @@ fn launch(alloc: Global, tokens: &mut Tokens<'_>, depth: usize) -> Result<Branch
 #[cycle(stmt)]
 #[tactic(auto, unfolding(crate::specs::Statements::launches, expr_parser::specs::Reading::separated, expr_parser::specs::Reading::separated_from))]
 fn launches(alloc: Global, tokens: &mut Tokens<'_>, depth: usize) -> Result<Items<Branch>, Fault>
-    ensures { Reads (map launch_of) (spec.launches max_level (spec.stmt max_level depth) tokens.old) result tokens.new }
+    ensures { Reads (map launch_of) (spec.launches max_level (spec.read_statement max_level depth) tokens.old) result tokens.new }
 {
     let mut found = Items::new(alloc);
     for _turn in 0..tokens.left() {
@@ -201,7 +201,7 @@ fn launches(alloc: Global, tokens: &mut Tokens<'_>, depth: usize) -> Result<Item
 #[cycle(stmt)]
 #[tactic(auto, unfolding(crate::specs::Statements::par_statement))]
 fn par_statement(alloc: Global, tokens: &mut Tokens<'_>, depth: usize) -> Result<Stmt, Fault>
-    ensures { Reads statement (spec.par_statement max_level (spec.stmt max_level depth) tokens.old) result tokens.new }
+    ensures { Reads statement (spec.par_statement max_level (spec.read_statement max_level depth) tokens.old) result tokens.new }
 {
     let token = tokens.close(Fixed::Par)?;
     let outer = tokens.level();
@@ -222,7 +222,7 @@ fn abort_statement(
     depth: usize,
     weak: bool,
 ) -> Result<Stmt, Fault>
-    ensures { Reads statement (spec.abort_statement max_level (spec.stmt max_level depth) weak tokens.old) result tokens.new }
+    ensures { Reads statement (spec.abort_statement max_level (spec.read_statement max_level depth) weak tokens.old) result tokens.new }
 {
     let outer = tokens.level();
     let token = tokens.enter(Fixed::Abort)?;

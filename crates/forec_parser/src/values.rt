@@ -12,9 +12,9 @@ use forec_tree::Number;
 use sqlite_items::Items;
 use std::alloc::Global;
 
-#[tactic(auto, unfolding(crate::specs::Items::negative))]
+#[tactic(auto, unfolding(crate::specs::Items::negative_number))]
 fn negative(tokens: &mut Tokens<'_>) -> Result<Number, Fault>
-    ensures { Reads (λ (n : Number). n) (spec.negative tokens.old) result tokens.new }
+    ensures { Reads (λ (n : Number). n) (spec.negative_number tokens.old) result tokens.new }
 {
     let token = tokens.close(Fixed::Minus)?;
     let number = tokens.number()?;

@@ -8,7 +8,7 @@ ghost use Rattle.forec_tree.specs.SpelledPrograms.{IsSpelled};
 ghost use Rattle.expr_parser.specs.Input.{input, max_level};
 ghost use Rattle.forec_parser.specs.Items as spec;
 ghost use Rattle.forec_parser.specs.ViablePrefixes.{StopsAt, OpensAt};
-ghost use Rattle.forec_parser.specs.Program.{Answers, Gives, HasCause, IsAmong, told_of};
+ghost use Rattle.forec_parser.specs.Program.{AnswersProgram, GivesProgram, HasParseCause, IsAmong, told_of};
 
 use crate::fault::ParseFault;
 use crate::item;
@@ -18,7 +18,7 @@ use std::alloc::Global;
 
 /// The program, with the place at which none is read.
 fn read(alloc: Global, tokens: &[Token]) -> Result<Program, Fault>
-    ensures { Gives (spec.items max_level (input tokens.now 0)) result }
+    ensures { GivesProgram (spec.items max_level (input tokens.now 0)) result }
 {
     let mut rest = Tokens::new(tokens, 0);
     let items = item::items(alloc, &mut rest)?;
@@ -51,8 +51,8 @@ fn told(fault: Fault, count: usize) -> ParseFault
 pub fn parse(alloc: Global, tokens: &[Token]) -> Result<Program, ParseFault>
     requires { length tokens.now ≤ 200000 }
     ensures found { IfOk result (λ p. IsSpelled max_level (program p) tokens.now) }
-    ensures only { (text : Text) → IsSpelled max_level text tokens.now → Answers text result }
-    ensures refused { IfErr result (HasCause tokens.now) }
+    ensures only { (text : Text) → IsSpelled max_level text tokens.now → AnswersProgram text result }
+    ensures refused { IfErr result (HasParseCause tokens.now) }
     ensures stops { (token : ℕ) → StopsAt max_level tokens.now token
         → result ≢ Err ParseFault.OutOfMemory
         → result ≡ Err (ParseFault.Syntax token) }

@@ -23,25 +23,25 @@ place_at text at = fold place_after first_place (take at text)
 -- ---- names, in the order of their first use
 
 -- the number of a name: its place among the names, and after all of them where it is new
-abbrev pub number_of : List (List ℕ) → List ℕ → ℕ
-number_of [] spelt = 0
-number_of (n ∷ ns) spelt = if bytes_eq spelt n then 0 else suc (number_of ns spelt)
+abbrev pub name_number : List (List ℕ) → List ℕ → ℕ
+name_number [] spelt = 0
+name_number (n ∷ ns) spelt = if bytes_eq spelt n then 0 else suc (name_number ns spelt)
 
 -- the names once this one is used: it comes last where it is new
-abbrev pub with_name : List (List ℕ) → List ℕ → List (List ℕ)
-with_name [] spelt = spelt ∷ []
-with_name (n ∷ ns) spelt = if bytes_eq spelt n then n ∷ ns else n ∷ with_name ns spelt
+abbrev pub with_spelt_name : List (List ℕ) → List ℕ → List (List ℕ)
+with_spelt_name [] spelt = spelt ∷ []
+with_spelt_name (n ∷ ns) spelt = if bytes_eq spelt n then n ∷ ns else n ∷ with_spelt_name ns spelt
 
 -- the kind of token that a piece of these bytes gives
-abbrev pub kind_of : List (List ℕ) → Piece → List ℕ → Option TokenKind
-kind_of names blank bytes = None
-kind_of names name bytes = Some (kind.Name (number_of names bytes))
-kind_of names (number int) bytes = Some (kind.Number int)
-kind_of names (word w) bytes = Some (kind.Word w)
-kind_of names (mark m) bytes = Some (kind.Mark m)
+abbrev pub token_kind_of : List (List ℕ) → Piece → List ℕ → Option TokenKind
+token_kind_of names blank bytes = None
+token_kind_of names name bytes = Some (kind.Name (name_number names bytes))
+token_kind_of names (number int) bytes = Some (kind.Number int)
+token_kind_of names (word w) bytes = Some (kind.Word w)
+token_kind_of names (mark m) bytes = Some (kind.Mark m)
 
 abbrev pub names_after : List (List ℕ) → Piece → List ℕ → List (List ℕ)
-names_after names name bytes = with_name names bytes
+names_after names name bytes = with_spelt_name names bytes
 names_after names piece bytes = names
 
 -- ---- the text
@@ -61,7 +61,7 @@ pub data Cuts (text : List ℕ) : List Token → List (List ℕ) → ℕ → Typ
       → NextPiece (drop at text) blank n
       → Cuts text tokens names (at + n)
   takes : {tokens : List Token} {names : List (List ℕ)} {at : ℕ} (piece : Piece) (n : ℕ) (k : TokenKind) → Cuts text tokens names at
-      → NextPiece (drop at text) piece n → kind_of names piece (slice text at n) ≡ Some k
+      → NextPiece (drop at text) piece n → token_kind_of names piece (slice text at n) ≡ Some k
       → Cuts text (tokens ++ token_at text at n k ∷ []) (names_after names piece (slice text at n)) (at + n)
 
 -- The lexed front of the text has these tokens and names, and ends at the byte `stop`: nothing fits there.
@@ -107,12 +107,12 @@ abbrev pub AreDistinct : List (List ℕ) → Type 0
 AreDistinct names = (i j : ℕ) (spelt : List ℕ) → slice_get names i ≡ Some spelt → slice_get names j ≡ Some spelt → i ≡ j
 
 -- the bytes of a token
-abbrev pub bytes_of : List ℕ → Token → List ℕ
-bytes_of text token = slice text token.start (token.end - token.start)
+abbrev pub token_bytes : List ℕ → Token → List ℕ
+token_bytes text token = slice text token.start (token.end - token.start)
 
 -- a name's number is that of its spelling
 abbrev pub IsSpelt : List ℕ → List (List ℕ) → Token → Type 0
-IsSpelt text names token = (i : ℕ) → token.kind ≡ kind.Name i → slice_get names i ≡ Some (bytes_of text token)
+IsSpelt text names token = (i : ℕ) → token.kind ≡ kind.Name i → slice_get names i ≡ Some (token_bytes text token)
 
 -- a name's number is one of the names
 abbrev pub IsNumbered : List (List ℕ) → Token → Type 0
@@ -122,7 +122,7 @@ IsNumbered names token = (i : ℕ) → token.kind ≡ kind.Name i → i < length
 abbrev pub NumbersSpellings : List ℕ → List Token → Type 0
 NumbersSpellings text tokens =
     (a b i j : ℕ) (s t : Token) → slice_get tokens a ≡ Some s → slice_get tokens b ≡ Some t → s.kind ≡ kind.Name i → t.kind ≡ kind.Name j
-    → (i ≡ j) ↔ (bytes_of text s ≡ bytes_of text t)
+    → (i ≡ j) ↔ (token_bytes text s ≡ token_bytes text t)
 
 -- the tokens stand one after the other, from one byte of the text up to another, and none is empty
 abbrev pub AreInOrder : ℕ → List Token → ℕ → Type 0

@@ -19,8 +19,8 @@ abbrev pub is_digit : ℕ → Bool
 is_digit b = nat_le 48 b && nat_le b 57
 
 -- a letter, `_` or a digit
-abbrev pub goes_on : ℕ → Bool
-goes_on b = is_letter b || is_digit b
+abbrev pub continues_name : ℕ → Bool
+continues_name b = is_letter b || is_digit b
 
 abbrev pub is_line_end : ℕ → Bool
 is_line_end b = b == 10
@@ -112,7 +112,7 @@ spelling sign.Hash = codes "#"
 -- a letter or `_`, then letters, `_` and digits
 abbrev pub IsName : List ℕ → Type 0
 IsName [] = ⊥
-IsName (b ∷ bs) = (is_letter b ≡ true) × Each goes_on bs
+IsName (b ∷ bs) = (is_letter b ≡ true) × Each continues_name bs
 
 abbrev pub IsReserved : List ℕ → Type 0
 IsReserved bs = (w : Word) × (bs ≡ letters_of w)
@@ -130,19 +130,19 @@ digit_of b =
 abbrev pub is_digit_in : ℕ → ℕ → Bool
 is_digit_in base b = nat_lt (digit_of b) base
 
-abbrev pub value_in : ℕ → List ℕ → ℕ
-value_in base digits = fold (λ value b. value * base + digit_of b) 0 digits
+abbrev pub value_in_base : ℕ → List ℕ → ℕ
+value_in_base base digits = fold (λ value b. value * base + digit_of b) 0 digits
 
 -- The bytes are a number of this value.
 pub data IsNumber (bytes : List ℕ) (value : ℕ) : Type 0 where
   -- the first digit is 1 to 9
   decimal : (d : ℕ) (ds : List ℕ) → bytes ≡ d ∷ ds → 49 ≤ d → d ≤ 57 → Each (is_digit_in 10) ds
-      → value ≡ value_in 10 bytes → IsNumber bytes value
+      → value ≡ value_in_base 10 bytes → IsNumber bytes value
   -- `0` alone too
   octal : (ds : List ℕ) → bytes ≡ codes "0" ++ ds → Each (is_digit_in 8) ds
-      → value ≡ value_in 8 ds → IsNumber bytes value
+      → value ≡ value_in_base 8 ds → IsNumber bytes value
   hexadecimal : (d : ℕ) (ds : List ℕ) → (bytes ≡ codes "0x" ++ d ∷ ds) ⊎ (bytes ≡ codes "0X" ++ d ∷ ds) → Each (is_digit_in 16) (d ∷ ds)
-      → value ≡ value_in 16 (d ∷ ds) → IsNumber bytes value
+      → value ≡ value_in_base 16 (d ∷ ds) → IsNumber bytes value
 
 -- the bytes are a number of at most 32 bits, and this is the `int` with the same 32 bits
 pub record IsInt (bytes : List ℕ) (int : ℤ) : Type 0 where
@@ -182,17 +182,17 @@ IsBlank bytes after = ((b : ℕ) × (is_space b ≡ true) × (bytes ≡ b ∷ []
 
 -- The bytes, with these others after them, are such a piece.
 -- A number is the whole run of letters, `_` and digits; where a comment opens there is no mark, also where the comment isn't closed.
-abbrev pub Fits : Piece → List ℕ → List ℕ → Type 0
-Fits blank bytes after = IsBlank bytes after
-Fits name bytes after = IsName bytes × (IsReserved bytes → ⊥)
-Fits (number int) bytes after = IsInt bytes int × EndsOr (λ b. not (goes_on b)) after
-Fits (word w) bytes after = bytes ≡ letters_of w
-Fits (mark m) bytes after = (bytes ≡ spelling m) × (OpensComment (bytes ++ after) → ⊥)
+abbrev pub IsPiece : Piece → List ℕ → List ℕ → Type 0
+IsPiece blank bytes after = IsBlank bytes after
+IsPiece name bytes after = IsName bytes × (IsReserved bytes → ⊥)
+IsPiece (number int) bytes after = IsInt bytes int × EndsOr (λ b. not (continues_name b)) after
+IsPiece (word w) bytes after = bytes ≡ letters_of w
+IsPiece (mark m) bytes after = (bytes ≡ spelling m) × (OpensComment (bytes ++ after) → ⊥)
 
 -- The first n bytes of the text fit the piece.
 pub record FitsAhead (text : List ℕ) (piece : Piece) (n : ℕ) : Type 0 where
   pub within : n ≤ length text
-  pub fits : Fits piece (take n text) (drop n text)
+  pub fits : IsPiece piece (take n text) (drop n text)
 
 -- The piece is the longest that fits, and has n bytes.
 pub record NextPiece (text : List ℕ) (piece : Piece) (n : ℕ) : Type 0 where

@@ -11,7 +11,7 @@ use Rattle.forec_tree.specs.declared.tree.Number.{Number}
 use Rattle.forec_tree.specs.declared.tree.OpAt.{OpAt}
 use Rattle.forec_tree.specs.declared.tree.Combine.{Combine}
 use Rattle.forec_tree.specs.declared.tree.GlobalKind.{GlobalKind}
-use Rattle.forec_tree.specs.Terms.{Term, Terms, Declared, Written, Statement, Statements, no_statements, more_statements, Perhaps, Branches, no_branches, by_call, by_group, PlainGlobal}
+use Rattle.forec_tree.specs.Terms.{Term, Terms, Declared, PlainTarget, Statement, Statements, no_statements, more_statements, Perhaps, Branches, no_branches, by_call, by_group, PlainGlobal}
 use Rattle.forec_tree.specs.Spelling.{listed}
 
 abbrev pub number_at : ℤ → Place → Number
@@ -40,7 +40,7 @@ steps_by (kind.Mark mark.PlusPlus) = Some bin.Add
 steps_by (kind.Mark mark.MinusMinus) = Some bin.Sub
 steps_by _ = None
 
-abbrev pub written_at : Name → Option Term → Written
+abbrev pub written_at : Name → Option Term → PlainTarget
 written_at name index = record { name = name; index = index }
 
 abbrev pub declared_as : Name → Option Number → List Term → Declared

@@ -15,41 +15,41 @@ use Rattle.forec_tree.specs.declared.tree.Combine.{Combine}
 use Rattle.forec_tree.specs.declared.tree.GlobalKind.{GlobalKind}
 use Rattle.forec_tree.specs.declared.tree.GlobalKind.TheVariants as sort
 use Rattle.forec_tree.specs.Terms.{Statement, PlainGlobal, PlainItem, IsGlobal, IsFunction, Text}
-use Rattle.forec_tree.specs.Spelling.{Spelt, at, IsMark, IsWord, IsName, IsNumber, name_at, tokens, IsWithin}
+use Rattle.forec_tree.specs.Spelling.{Spelt, at, IsMark, IsWord, IsNameToken, IsNumberToken, name_at, tokens, IsWithin}
 use Rattle.forec_tree.specs.Parts.{number_at, in_order, global_of}
 use Rattle.forec_tree.specs.SpelledStatements.{Separated, Lengths, Block}
 
 -- a number with or without a sign: its value, wrapped, at the place of the first token
 pub data Signed : Number → ℕ → List Spelt → Type 0 where
-  positive : {v : ℕ} {t : Token} (value : ℤ) → IsNumber value t → Signed (number_at value t.place) v (at t v ∷ [])
-  negative : {v : ℕ} {minus t : Token} (value : ℤ) → IsMark mark.Minus minus → IsNumber value t
+  positive : {v : ℕ} {t : Token} (value : ℤ) → IsNumberToken value t → Signed (number_at value t.place) v (at t v ∷ [])
+  negative : {v : ℕ} {minus t : Token} (value : ℤ) → IsMark mark.Minus minus → IsNumberToken value t
       → Signed (number_at (unary_of un.Minus value) minus.place) v (at minus v ∷ at t v ∷ [])
 
 -- a name alone
 pub data Named (kind : GlobalKind) : PlainGlobal → ℕ → List Spelt → Type 0 where
-  named : {v : ℕ} {t : Token} (id : ℕ) → IsName id t → Named kind (global_of kind None (name_at id t.place) None []) v (at t v ∷ [])
+  named : {v : ℕ} {t : Token} (id : ℕ) → IsNameToken id t → Named kind (global_of kind None (name_at id t.place) None []) v (at t v ∷ [])
 
 -- a name, and maybe a value
 pub data Scalar (kind : GlobalKind) (combine : Option Combine) : PlainGlobal → ℕ → List Spelt → Type 0 where
-  unset : {v : ℕ} {t : Token} (id : ℕ) → IsName id t → Scalar kind combine (global_of kind combine (name_at id t.place) None []) v (at t v ∷ [])
-  set : {v : ℕ} {t equal : Token} {value : Number} {ls : List Spelt} (id : ℕ) → IsName id t → IsMark mark.Assign equal → Signed value v ls
+  unset : {v : ℕ} {t : Token} (id : ℕ) → IsNameToken id t → Scalar kind combine (global_of kind combine (name_at id t.place) None []) v (at t v ∷ [])
+  set : {v : ℕ} {t equal : Token} {value : Number} {ls : List Spelt} (id : ℕ) → IsNameToken id t → IsMark mark.Assign equal → Signed value v ls
       → Scalar kind combine (global_of kind combine (name_at id t.place) None (value ∷ [])) v (at t v ∷ at equal v ∷ ls)
 
 -- a constant
 pub data Table : PlainGlobal → ℕ → List Spelt → Type 0 where
-  constant : {v : ℕ} {t equal : Token} {value : Number} {ls : List Spelt} (id : ℕ) → IsName id t → IsMark mark.Assign equal → Signed value v ls
+  constant : {v : ℕ} {t equal : Token} {value : Number} {ls : List Spelt} (id : ℕ) → IsNameToken id t → IsMark mark.Assign equal → Signed value v ls
       → Table (global_of sort.Const None (name_at id t.place) None (value ∷ [])) v (at t v ∷ at equal v ∷ ls)
   table : {v : ℕ} {t : Token} (equal left right : Token) {length : Number} {values : List Number} {ls rs : List Spelt} (id : ℕ)
-      → IsName id t → Lengths length v ls → IsMark mark.Assign equal → IsMark mark.LeftCurly left → Separated Signed values (v + 1) rs → IsMark mark.RightCurly right
+      → IsNameToken id t → Lengths length v ls → IsMark mark.Assign equal → IsMark mark.LeftCurly left → Separated Signed values (v + 1) rs → IsMark mark.RightCurly right
       → Table (global_of sort.Const None (name_at id t.place) (Some length) values) v (at t v ∷ (ls ++ (at equal v ∷ at left (v + 1) ∷ (rs ++ (at right v ∷ [])))))
 
 -- a shared variable, with or without a value, or a shared array, with or without values
 pub data SharedVariable (kind : GlobalKind) (combine : Option Combine) : PlainGlobal → ℕ → List Spelt → Type 0 where
   one : {v : ℕ} {global : PlainGlobal} {ls : List Spelt} → Scalar kind combine global v ls → SharedVariable kind combine global v ls
-  array : {v : ℕ} {t : Token} {length : Number} {ls : List Spelt} (id : ℕ) → IsName id t → Lengths length v ls
+  array : {v : ℕ} {t : Token} {length : Number} {ls : List Spelt} (id : ℕ) → IsNameToken id t → Lengths length v ls
       → SharedVariable kind combine (global_of kind combine (name_at id t.place) (Some length) []) v (at t v ∷ ls)
   valued_array : {v : ℕ} {t : Token} (equal left right : Token) {length : Number} {values : List Number} {ls rs : List Spelt} (id : ℕ)
-      → IsName id t → Lengths length v ls → IsMark mark.Assign equal → IsMark mark.LeftCurly left → Separated Signed values (v + 1) rs → IsMark mark.RightCurly right
+      → IsNameToken id t → Lengths length v ls → IsMark mark.Assign equal → IsMark mark.LeftCurly left → Separated Signed values (v + 1) rs → IsMark mark.RightCurly right
       → SharedVariable kind combine (global_of kind combine (name_at id t.place) (Some length) values) v
       (at t v ∷ (ls ++ (at equal v ∷ at left (v + 1) ∷ (rs ++ (at right v ∷ [])))))
 
@@ -65,12 +65,12 @@ policy_word policy.New = word.New
 policy_word policy.Mod = word.Mod
 
 -- how the copies of a shared variable are combined
-pub data Combines : Combine → ℕ → List Spelt → Type 0 where
-  combines : {v : ℕ} {combine policy with name : Token} (p : Policy) (id : ℕ) → IsWord word.Combine combine → IsWord (policy_word p) policy → IsWord word.With with → IsName id name
-      → Combines (record { policy = p; with = name_at id name.place }) v (at combine v ∷ at policy v ∷ at with v ∷ at name v ∷ [])
+pub data SpellsCombine : Combine → ℕ → List Spelt → Type 0 where
+  combines : {v : ℕ} {combine policy with name : Token} (p : Policy) (id : ℕ) → IsWord word.Combine combine → IsWord (policy_word p) policy → IsWord word.With with → IsNameToken id name
+      → SpellsCombine (record { policy = p; with = name_at id name.place }) v (at combine v ∷ at policy v ∷ at with v ∷ at name v ∷ [])
 
 pub data Param : Name → ℕ → List Spelt → Type 0 where
-  param : {v : ℕ} {int t : Token} (id : ℕ) → IsWord word.Int int → IsName id t → Param (name_at id t.place) v (at int v ∷ at t v ∷ [])
+  param : {v : ℕ} {int t : Token} (id : ℕ) → IsWord word.Int int → IsNameToken id t → Param (name_at id t.place) v (at int v ∷ at t v ∷ [])
 
 pub data Params : List Name → ℕ → List Spelt → Type 0 where
   no_params : {v : ℕ} → Params [] v []
@@ -102,10 +102,10 @@ pub data Introduces : List PlainItem → ℕ → List Spelt → Type 0 where
       → IsWord word.Int int → Separated (Scalar sort.Plain None) globals v ls → IsMark mark.Semicolon semicolon
       → Introduces (map IsGlobal globals) v (at int v ∷ (ls ++ (at semicolon v ∷ [])))
   shared_globals : {v : ℕ} (int semicolon : Token) {kind : GlobalKind} {global : PlainGlobal} {combine : Combine} {ls ms rs : List Spelt}
-      → Sharing kind v ls → IsWord word.Int int → SharedVariable kind (Some combine) global v ms → Combines combine v rs → IsMark mark.Semicolon semicolon
+      → Sharing kind v ls → IsWord word.Int int → SharedVariable kind (Some combine) global v ms → SpellsCombine combine v rs → IsMark mark.Semicolon semicolon
       → Introduces (IsGlobal global ∷ []) v (ls ++ (at int v ∷ (ms ++ (rs ++ (at semicolon v ∷ [])))))
   function : {v : ℕ} {t name : Token} {place : Place} {names : List Name} {body : List Statement} {ls ms : List Spelt} (gives : Bool) (id : ℕ)
-      → IsWord (gives_word gives) t → IsName id name → Parameters names v ls → Block place body v v ms
+      → IsWord (gives_word gives) t → IsNameToken id name → Parameters names v ls → Block place body v v ms
       → Introduces (IsFunction (record { name = name_at id name.place; gives = gives; params = names; body = in_order body }) ∷ []) v (at t v ∷ at name v ∷ (ls ++ ms))
 
 pub data Programs : Text → ℕ → List Spelt → Type 0 where

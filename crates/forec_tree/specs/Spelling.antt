@@ -30,11 +30,11 @@ IsMark m t = t.kind ≡ kind.Mark m
 abbrev pub IsWord : Word → Token → Type 0
 IsWord w t = t.kind ≡ kind.Word w
 
-abbrev pub IsName : ℕ → Token → Type 0
-IsName id t = t.kind ≡ kind.Name id
+abbrev pub IsNameToken : ℕ → Token → Type 0
+IsNameToken id t = t.kind ≡ kind.Name id
 
-abbrev pub IsNumber : ℤ → Token → Type 0
-IsNumber value t = t.kind ≡ kind.Number value
+abbrev pub IsNumberToken : ℤ → Token → Type 0
+IsNumberToken value t = t.kind ≡ kind.Number value
 
 abbrev pub name_at : ℕ → Place → Name
 name_at id place = record { id = id; place = place }
@@ -88,10 +88,10 @@ mark_of oper.And = mark.AndAnd
 mark_of (oper.Computes op) = computing_mark op
 
 -- an operator between its operands
-abbrev pub joined : Operator → Place → Term → Term → Term
-joined oper.Or place left right = plain.Or place left right
-joined oper.And place left right = plain.And place left right
-joined (oper.Computes op) place left right = plain.Bin place op left right
+abbrev pub operator_term : Operator → Place → Term → Term → Term
+operator_term oper.Or place left right = plain.Or place left right
+operator_term oper.And place left right = plain.And place left right
+operator_term (oper.Computes op) place left right = plain.Bin place op left right
 
 abbrev pub sign_of : Unary → Mark
 sign_of un.Minus = mark.Minus
@@ -109,11 +109,11 @@ listed (e ∷ es) = more_terms e (listed es)
 -- An operator raises it up to the end of the expression that it stands in, a bracket up to the bracket that closes it. Brackets leave no node.
 mutual
   pub data Spells : ℕ → Term → ℕ → List Spelt → ℕ → Type 0 where
-    number : {n v : ℕ} {t : Token} (value : ℤ) → IsNumber value t → Spells n (plain.Num t.place value) v (at t v ∷ []) v
-    read : {n v : ℕ} {t : Token} (id : ℕ) → IsName id t → Spells n (plain.Read t.place (name_at id t.place)) v (at t v ∷ []) v
-    element : {n v : ℕ} {t : Token} {index : Term} {ls : List Spelt} (id : ℕ) → IsName id t → Indexes index v ls
+    number : {n v : ℕ} {t : Token} (value : ℤ) → IsNumberToken value t → Spells n (plain.Num t.place value) v (at t v ∷ []) v
+    read : {n v : ℕ} {t : Token} (id : ℕ) → IsNameToken id t → Spells n (plain.Read t.place (name_at id t.place)) v (at t v ∷ []) v
+    element : {n v : ℕ} {t : Token} {index : Term} {ls : List Spelt} (id : ℕ) → IsNameToken id t → SpellsIndex index v ls
         → Spells n (plain.Element t.place (name_at id t.place) index) v (at t v ∷ ls) v
-    call : {n v : ℕ} {t : Token} {args : List Term} {ls : List Spelt} (id : ℕ) → IsName id t → Passes args v ls
+    call : {n v : ℕ} {t : Token} {args : List Term} {ls : List Spelt} (id : ℕ) → IsNameToken id t → SpellsArguments args v ls
         → Spells n (plain.Call t.place (name_at id t.place) (listed args)) v (at t v ∷ ls) v
     bracketed : {n v : ℕ} {inner : Term} {ls : List Spelt} → Brackets inner v ls → Spells n inner v ls v
     unary : {n v w : ℕ} {t : Token} {part : Term} {ls : List Spelt} (op : Unary)
@@ -121,7 +121,7 @@ mutual
         → Spells n (plain.Un t.place op part) v (at t (v + 1) ∷ ls) w
     binary : {n v w x : ℕ} (t : Token) {left right : Term} {ls rs : List Spelt} (op : Operator)
         → n ≤ level_of op → Spells (level_of op) left v ls w → IsMark (mark_of op) t → Spells (level_of op + 1) right (w + 1) rs x
-        → Spells n (joined op t.place left right) v (ls ++ (at t (w + 1) ∷ rs)) x
+        → Spells n (operator_term op t.place left right) v (ls ++ (at t (w + 1) ∷ rs)) x
     choose : {n v w x y : ℕ} (t colon : Token) {test first second : Term} {ls ms rs : List Spelt}
         → n ≤ 1 → Spells 2 test v ls w → IsMark mark.Question t → Spells 1 first (w + 1) ms x → IsMark mark.Colon colon → Spells 1 second x rs y
         → Spells n (plain.Choose t.place test first second) v (ls ++ (at t (w + 1) ∷ (ms ++ (at colon x ∷ rs)))) y
@@ -137,24 +137,24 @@ mutual
         → Brackets inner v (at left (v + 1) ∷ (ls ++ (at right v ∷ [])))
 
   -- an index, with its square brackets
-  pub data Indexes : Term → ℕ → List Spelt → Type 0 where
+  pub data SpellsIndex : Term → ℕ → List Spelt → Type 0 where
     indexes : {v : ℕ} {left : Token} (right : Token) {index : Term} {ls : List Spelt}
         → IsMark mark.LeftSquare left → Whole index (v + 1) ls → IsMark mark.RightSquare right
-        → Indexes index v (at left (v + 1) ∷ (ls ++ (at right v ∷ [])))
+        → SpellsIndex index v (at left (v + 1) ∷ (ls ++ (at right v ∷ [])))
 
   -- the arguments of a call, with their brackets
-  pub data Passes : List Term → ℕ → List Spelt → Type 0 where
-    passes_none : {v : ℕ} {left right : Token} → IsMark mark.LeftRound left → IsMark mark.RightRound right → Passes [] v (at left (v + 1) ∷ at right v ∷ [])
+  pub data SpellsArguments : List Term → ℕ → List Spelt → Type 0 where
+    passes_none : {v : ℕ} {left right : Token} → IsMark mark.LeftRound left → IsMark mark.RightRound right → SpellsArguments [] v (at left (v + 1) ∷ at right v ∷ [])
     passes : {v : ℕ} {left : Token} (right : Token) {args : List Term} {ls : List Spelt}
-        → IsMark mark.LeftRound left → Arguments args (v + 1) ls → IsMark mark.RightRound right
-        → Passes args v (at left (v + 1) ∷ (ls ++ (at right v ∷ [])))
+        → IsMark mark.LeftRound left → SpellsExpressions args (v + 1) ls → IsMark mark.RightRound right
+        → SpellsArguments args v (at left (v + 1) ∷ (ls ++ (at right v ∷ [])))
 
   -- one expression or more, with a comma between each two
-  pub data Arguments : List Term → ℕ → List Spelt → Type 0 where
-    one : {v : ℕ} {arg : Term} {ls : List Spelt} → Whole arg v ls → Arguments (arg ∷ []) v ls
+  pub data SpellsExpressions : List Term → ℕ → List Spelt → Type 0 where
+    one : {v : ℕ} {arg : Term} {ls : List Spelt} → Whole arg v ls → SpellsExpressions (arg ∷ []) v ls
     more : {v : ℕ} {arg : Term} {args : List Term} (comma : Token) {ls rs : List Spelt}
-        → Whole arg v ls → IsMark mark.Comma comma → Arguments args v rs
-        → Arguments (arg ∷ args) v (ls ++ (at comma v ∷ rs))
+        → Whole arg v ls → IsMark mark.Comma comma → SpellsExpressions args v rs
+        → SpellsExpressions (arg ∷ args) v (ls ++ (at comma v ∷ rs))
 
 -- ---- tokens and levels
 

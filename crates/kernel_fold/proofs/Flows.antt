@@ -6,7 +6,7 @@ use Rattle.forec_base.specs.declared.Place.{Place}
 use Rattle.forec_base.specs.declared.Trap.TheVariants.{Turns}
 use Rattle.forec_kernel.specs.Terms.{Expr, Stmt, Nop, Set, SetAt, PutAt, Clear, Seq, If, While, Pause, Par, Enter, Return, Stmts, no_stmts, more_stmts}
 use Rattle.forec_kernel.specs.Shapes.{PlainKernel}
-use Rattle.forec_kernel.specs.Values.{index_in, Value, Gives, Raises, Setting, words_alone, val, Flow, Goes, Returns, Breaks, more_flow, flow_with, flow_then, stored, stored_at, cleared, turns, flow, flows, returned, fresh_words, function_words, call_within, call}
+use Rattle.forec_kernel.specs.Values.{index_in, Value, Gives, Raises, Setting, words_alone, val, Flow, Goes, Returns, Breaks, more_flow, flow_with, flow_then, stored_flow, stored_at, cleared, turns, flow, flows, flow_value, fresh_words, function_words, call_within, call}
 use Rattle.kernel_fold.specs.Laws.{NoWorse}
 use Rattle.kernel_fold.specs.Folding.{constant_of, chosen_stmt, fold_expr, is_nop, unless_nop, in_sequence, never_turns, fold_stmt, fold_stmts, folded_kernel}
 use Rattle.kernel_fold.proofs.Values.{value_same, is_number, expr_like}
@@ -209,7 +209,7 @@ module _ (tables : List (List ℤ)) (f g : ℕ → List ℤ → Value) (calls : 
     pub flow_like : (a : Stmt) (words : List ℤ) → FlowLike (flow s a words) (flow s' (fold_stmt a) words)
     flow_like Nop words = flow_same (Goes words 0)
     flow_like (Set to e) words =
-        with_like (val s (words_alone words) e) (val s' (words_alone words) (fold_expr e)) _ _ (value words e) (λ n. flow_same (stored words to n))
+        with_like (val s (words_alone words) e) (val s' (words_alone words) (fold_expr e)) _ _ (value words e) (λ n. flow_same (stored_flow words to n))
     flow_like (SetAt slot n i e place) words =
         with_like (val s (words_alone words) i) (val s' (words_alone words) (fold_expr i)) _ _ (value words i) (λ k.
         with_like (val s (words_alone words) e) (val s' (words_alone words) (fold_expr e)) _ _ (value words e) (λ x.
@@ -236,7 +236,7 @@ module _ (tables : List (List ℤ)) (f g : ℕ → List ℤ → Value) (calls : 
 
 -- ---- calls
 
-returned_like : (f g : Flow) → FlowLike f g → NoWorse (returned f) (returned g)
+returned_like : (f g : Flow) → FlowLike f g → NoWorse (flow_value f) (flow_value g)
 returned_like (Goes words u) (Goes words' v) l = (refl, l.1)
 returned_like (Goes words u) (Returns n v) l = absurd l
 returned_like (Goes words u) (Breaks place trap v) l = absurd l

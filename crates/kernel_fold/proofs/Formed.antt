@@ -11,7 +11,7 @@ use Rattle.forec_kernel.specs.Values.{function_words}
 use Rattle.forec_kernel.specs.Texts.{uses_of, words_of, body_of}
 use Rattle.forec_kernel.specs.Combining.{contains, variable_of}
 use Rattle.forec_kernel.specs.Weight.{expr_weight, exprs_weight, branches_weight}
-use Rattle.forec_kernel.specs.WellFormed.{Scope, FineExpr, FineExprs, FineBranches, FineStmt, FineStmts, threads_in, pars_of, pars_in, joined_lists, FinePar, calls_of, calls_in, branch_calls, stmt_calls, stmts_calls, returns, some_returns, function_body, users, combine_calls, par_calls, thread_calls, greatest, chain, stmt_terms, stmts_terms, bodies_terms, expr_depth, exprs_depth, branches_depth, stmt_depth, stmts_depth, FineThread, FineChild, FineRoot, FineFunction, Ranked, FineVariable, WellFormed}
+use Rattle.forec_kernel.specs.WellFormed.{TermScope, FineExpr, FineExprs, FineBranches, FineStmt, FineStmts, threads_in, pars_of, pars_in, joined_lists, FinePar, calls_of, calls_in, branch_calls, stmt_calls, stmts_calls, returns, some_returns, function_body, users, combine_calls, par_calls, thread_calls, greatest, chain, stmt_terms, stmts_terms, bodies_terms, expr_depth, exprs_depth, branches_depth, stmt_depth, stmts_depth, FineThread, FineChild, FineRoot, FineFunction, Ranked, FineVariable, WellFormed}
 use Rattle.kernel_fold.specs.Folding.{constant_of, constant_or, unary_number, binary_number, and_number, or_number, chosen_expr, chosen_stmt, fold_expr, fold_exprs, is_nop, unless_nop, in_sequence, never_turns, fold_branches, fold_stmt, fold_stmts, folded_kernel}
 use Rattle.kernel_fold.proofs.Flows.{is_nop_only, body_folded}
 use Rattle.kernel_fold.proofs.Subs.{Sub, end, skip, keep, sub_same, sub_none, sub_append, sub_left, sub_right, greatest_sub, contains_sub, distinct_sub, joined_sub, found_sub}
@@ -457,10 +457,10 @@ module _ (k : PlainKernel) where
   threads_count = length-map k.threads fold_stmt
 
   module _ (n : ℕ) (uses : List ℕ) where
-    abbrev sc : Scope
+    abbrev sc : TermScope
     sc = record { kernel = k; words = n; uses = uses }
 
-    abbrev sc' : Scope
+    abbrev sc' : TermScope
     sc' = record { kernel = folded_kernel k; words = n; uses = uses }
 
     fine_number : (o : Option ℤ) (e : Expr) → FineExpr sc' e → FineExpr sc' (constant_or o e)

@@ -4,7 +4,7 @@ use Rattle.forec_kernel.specs.declared.shape.VarCopy.{VarCopy}
 use Rattle.forec_kernel.specs.Shapes.{PlainKernel}
 use Rattle.forec_kernel.specs.Values.{Value, Gives, Raises, more_units, call}
 use Rattle.forec_kernel.specs.Texts.{Threads}
-use Rattle.forec_kernel.specs.Combining.{Share, shares, taking_part, some_marked, Joint, fold_calls, last_value, variable_calls, combined_value, variable_of, combine_of, part_of, joined_copy, joined_copies, calls_of, calls_from, calls_at, count_threads, in_order, Cost, Costs, Fails, more_cost, cost_of, join_cost}
+use Rattle.forec_kernel.specs.Combining.{Share, shares, taking_part, some_marked, Joint, fold_calls, last_value, variable_calls, combined_value, variable_of, combine_of, part_of, joined_copy, joined_copies, joint_calls, calls_from, calls_at, count_threads, calls_in_order, Cost, Costs, Fails, more_cost, cost_of, join_cost}
 use Rattle.kernel_fold.specs.Laws.{NoWorse}
 use Rattle.kernel_fold.specs.Folding.{folded_kernel}
 use Rattle.kernel_fold.proofs.Values.{more_like}
@@ -99,10 +99,10 @@ at_like n (i ∷ is) [] k = absurd k
 at_like n (i ∷ is) (j ∷ js) k =
     append_like (calls_from n i) (calls_from n j) (calls_at n is) (calls_at n js) (from_like n i j k.0) (at_like n is js k.1)
 
-order_like : (n m : ℕ) (is js : List (List Joint)) → AllLike is js → ValuesLike (in_order n m is) (in_order n m js)
+order_like : (n m : ℕ) (is js : List (List Joint)) → AllLike is js → ValuesLike (calls_in_order n m is) (calls_in_order n m js)
 order_like n zero is js k = tt
 order_like n (suc m) is js k =
-    append_like (calls_at n is) (calls_at n js) (in_order (suc n) m is) (in_order (suc n) m js) (at_like n is js k) (order_like (suc n) m is js k)
+    append_like (calls_at n is) (calls_at n js) (calls_in_order (suc n) m is) (calls_in_order (suc n) m js) (at_like n is js k) (order_like (suc n) m is js k)
 
 abbrev pub CostLike : Cost → Cost → Type 0
 CostLike (Costs u) (Costs v) = v ≤ u
@@ -168,7 +168,7 @@ module _ (k : PlainKernel) where
       ∙ ap (λ xs. joined_copy k cs v c ∷ xs) (copies_like cs ds uses copies l)
 
   all_calls_like : (cs ds : Threads) (uses : List ℕ) (copies : List VarCopy) → LikeThreads cs ds →
-      AllLike (calls_of k cs uses copies) (calls_of (folded_kernel k) ds uses copies)
+      AllLike (joint_calls k cs uses copies) (joint_calls (folded_kernel k) ds uses copies)
   all_calls_like cs ds [] copies l = tt
   all_calls_like cs ds (v ∷ uses) [] l = tt
   all_calls_like cs ds (v ∷ uses) (c ∷ copies) l = (
@@ -180,7 +180,7 @@ module _ (k : PlainKernel) where
   pub join_like : (cs ds : Threads) (uses : List ℕ) (copies : List VarCopy) → LikeThreads cs ds →
       CostLike (join_cost k cs uses copies) (join_cost (folded_kernel k) ds uses copies)
   join_like cs ds uses copies l =
-      cost_like (in_order 0 (count_threads cs) (calls_of k cs uses copies)) (in_order 0 (count_threads ds) (calls_of (folded_kernel k) ds uses copies))
-      (subst (λ n. ValuesLike (in_order 0 (count_threads cs) (calls_of k cs uses copies)) (in_order 0 n (calls_of (folded_kernel k) ds uses copies)))
+      cost_like (calls_in_order 0 (count_threads cs) (joint_calls k cs uses copies)) (calls_in_order 0 (count_threads ds) (joint_calls (folded_kernel k) ds uses copies))
+      (subst (λ n. ValuesLike (calls_in_order 0 (count_threads cs) (joint_calls k cs uses copies)) (calls_in_order 0 n (joint_calls (folded_kernel k) ds uses copies)))
       (sym (count_like cs ds l))
-      (order_like 0 (count_threads cs) (calls_of k cs uses copies) (calls_of (folded_kernel k) ds uses copies) (all_calls_like cs ds uses copies l)))
+      (order_like 0 (count_threads cs) (joint_calls k cs uses copies) (joint_calls (folded_kernel k) ds uses copies) (all_calls_like cs ds uses copies l)))

@@ -9,9 +9,9 @@ use Rattle.forec_kernel.specs.declared.shape.VarCopy.{VarCopy}
 use Rattle.forec_kernel.specs.Terms.{Expr, Branch, Stmt, Nop, Set, SetAt, PutAt, Clear, Seq, If, While, Pause, Par, Enter, Return, Stmts, no_stmts}
 use Rattle.forec_kernel.specs.Shapes.{PlainKernel}
 use Rattle.forec_kernel.specs.Values.{index_in, Value, Gives, Raises, Values, AllGive, OneRaises, Sight, setting, vals, call}
-use Rattle.forec_kernel.specs.Texts.{Loop, Go_on, Again, Text, Done, Run, Then, Turning, Resting, Fork, Held, Watch, Last, Threads, text_of, texts_of, all_over, first_trap, ended_are_gone, body_of}
+use Rattle.forec_kernel.specs.Texts.{Loop, Go_on, Again, RunningText, Done, Run, Then, Turning, Resting, Fork, Held, Watch, Last, Threads, text_of, texts_of, all_over, first_trap, ended_are_gone, body_of}
 use Rattle.forec_kernel.specs.Combining.{Cost, Costs, Fails, join_cost}
-use Rattle.forec_kernel.specs.Steps.{Move, Finished, Halts, Moves, Traps, more_move, move_with, Owner, evaluated, assigned, assigned_at, shared_at, turned, entered, Arguments, Ready, Refused, one_more_list, arguments_then, arguments, started, forked, statement_move, loop_move, combined, joined, move_before, Path, text_move}
+use Rattle.forec_kernel.specs.Steps.{Move, Finished, Halts, Moves, Traps, more_move, move_with, Owner, evaluated, assigned, assigned_at, shared_at, turned_loop, entered_abort, Arguments, Ready, Refused, one_more_list, arguments_then, arguments, started, forked, statement_move, loop_move, combined, joined, move_before, Path, text_move}
 use Rattle.kernel_fold.specs.Laws.{NoWorse}
 use Rattle.kernel_fold.specs.Folding.{constant_of, chosen_stmt, fold_expr, fold_exprs, is_nop, never_turns, fold_branches, fold_stmt, fold_stmts, folded_kernel}
 use Rattle.kernel_fold.proofs.Values.{ValuesLike, is_number, expr_like, exprs_like}
@@ -23,7 +23,7 @@ use Rattle.kernel_fold.proofs.Rests.{stmt_rest, stmts_rest, text_rest, text_of_r
 -- ---- what goes with a step
 
 -- The folded text takes a step like it: the same, with texts that go together, and no more units. S is the folded text before.
-abbrev pub MoveLike : Text → Move → Move → Type 0
+abbrev pub MoveLike : RunningText → Move → Move → Type 0
 MoveLike S Finished Finished = text_ends S ≡ true
 MoveLike S Halts Halts = Unit {0}
 MoveLike S (Moves R w c u) (Moves R' w' c' v) = Like R R' × (w' ≡ w) × (c' ≡ c) × (v ≤ u)
@@ -31,11 +31,11 @@ MoveLike S (Traps place trap u) (Traps place' trap' v) = (place' ≡ place) × (
 MoveLike S _ _ = ⊥
 
 -- The folded text doesn't step: what has become of the text goes with it still, and less than n is left.
-abbrev pub Waits : ℕ → List ℤ → List VarCopy → Text → Move → Type 0
+abbrev pub Waits : ℕ → List ℤ → List VarCopy → RunningText → Move → Type 0
 Waits n w c S (Moves R w' c' u) = Like R S × (w' ≡ w) × (c' ≡ c) × (text_rest R < n)
 Waits n w c S _ = ⊥
 
-abbrev pub StepLike : ℕ → List ℤ → List VarCopy → Text → Move → Move → Type 0
+abbrev pub StepLike : ℕ → List ℤ → List VarCopy → RunningText → Move → Move → Type 0
 StepLike n w c S m m' = Waits n w c S m ⊎ MoveLike S m m'
 
 -- a step of a text all of which was folded away
@@ -47,14 +47,14 @@ QuietMove n w c (Traps place trap u) = ⊥
 
 -- ---- after a number
 
-more_move_like : (S : Text) (a b : ℕ) (m n : Move) → b ≤ a → MoveLike S m n → MoveLike S (more_move a m) (more_move b n)
+more_move_like : (S : RunningText) (a b : ℕ) (m n : Move) → b ≤ a → MoveLike S m n → MoveLike S (more_move a m) (more_move b n)
 more_move_like S a b Finished Finished h l = l
 more_move_like S a b Halts Halts h l = tt
 more_move_like S a b (Moves R w c u) (Moves R' w' c' v) h l = let le = l.3 in (l.0, l.1, l.2, omega arith)
 more_move_like S a b (Traps place trap u) (Traps place' trap' v) h l = let le = l.2 in (l.0, l.1, omega arith)
 more_move_like S a b _ _ h l = absurd l
 
-pub with_like : (S : Text) (v w : Value) (go go' : ℤ → Move) → NoWorse v w → ((n : ℤ) → MoveLike S (go n) (go' n)) →
+pub with_like : (S : RunningText) (v w : Value) (go go' : ℤ → Move) → NoWorse v w → ((n : ℤ) → MoveLike S (go n) (go' n)) →
     MoveLike S (move_with v go) (move_with w go')
 with_like S (Gives n u) (Gives m v) go go' l f =
     more_move_like S u v (go n) (go' m) l.1 (subst (λ x. MoveLike S (go n) (go' x)) (sym l.0) (f n))
@@ -62,13 +62,13 @@ with_like S (Gives n u) (Raises place trap v) go go' l f = absurd l
 with_like S (Raises place trap u) (Gives m v) go go' l f = absurd l
 with_like S (Raises place trap u) (Raises place' trap' v) go go' l f = l
 
-more_waits : (n : ℕ) (w : List ℤ) (c : List VarCopy) (S : Text) (a : ℕ) (m : Move) → Waits n w c S m → Waits n w c S (more_move a m)
+more_waits : (n : ℕ) (w : List ℤ) (c : List VarCopy) (S : RunningText) (a : ℕ) (m : Move) → Waits n w c S m → Waits n w c S (more_move a m)
 more_waits n w c S a Finished l = l
 more_waits n w c S a Halts l = l
 more_waits n w c S a (Moves R w' c' u) l = l
 more_waits n w c S a (Traps place trap u) l = l
 
-number_waits : (n : ℕ) (w : List ℤ) (c : List VarCopy) (S : Text) (v : Value) (x : ℤ) (go : ℤ → Move) → NoWorse v (Gives x 1) →
+number_waits : (n : ℕ) (w : List ℤ) (c : List VarCopy) (S : RunningText) (v : Value) (x : ℤ) (go : ℤ → Move) → NoWorse v (Gives x 1) →
     Waits n w c S (go x) → Waits n w c S (move_with v go)
 number_waits n w c S (Gives y u) x go l f = more_waits n w c S u (go y) (subst (λ z. Waits n w c S (go z)) l.0 f)
 number_waits n w c S (Raises place trap u) x go l f = absurd l
@@ -85,7 +85,7 @@ number_quiet n w c (Gives y u) x go l f = more_quiet n w c u (go y) (subst (λ z
 number_quiet n w c (Raises place trap u) x go l f = absurd l
 
 -- a text that was folded away goes on to its end, while the folded one is at its end
-pub quiet_waits : (n : ℕ) (w : List ℤ) (c : List VarCopy) (S : Text) (m : Move) → text_ends S ≡ true → QuietMove n w c m → StepLike n w c S m Finished
+pub quiet_waits : (n : ℕ) (w : List ℤ) (c : List VarCopy) (S : RunningText) (m : Move) → text_ends S ≡ true → QuietMove n w c m → StepLike n w c S m Finished
 quiet_waits n w c S Finished e q = inr e
 quiet_waits n w c S Halts e q = absurd q
 quiet_waits n w c S (Moves R w' c' u) e q = inl (quiet_like R S q.0 e, q.1, q.2, q.3)
@@ -109,7 +109,7 @@ module _ (k : PlainKernel) (uses : List ℕ) (w : List ℤ) (c : List VarCopy) w
 
   -- ---- the folded text at its end
 
-  pub end_move : (path : Path) (S : Text) → text_ends S ≡ true → text_move (folded_kernel k) path uses w c S ≡ Finished
+  pub end_move : (path : Path) (S : RunningText) → text_ends S ≡ true → text_move (folded_kernel k) path uses w c S ≡ Finished
   end_move path Done h = refl
   end_move path (Run Nop) h = refl
   end_move path (Run (Return e)) h = refl
@@ -134,7 +134,7 @@ module _ (k : PlainKernel) (uses : List ℕ) (w : List ℤ) (c : List VarCopy) w
   -- ---- what was folded away
 
   abbrev turn_test : Loop → Bool → Move
-  turn_test loop z = elim z [ true ↦ Moves Done w c 1 | false ↦ turned loop loop.left w c ]
+  turn_test loop z = elim z [ true ↦ Moves Done w c 1 | false ↦ turned_loop loop loop.left w c ]
 
   loop_quiet : (loop : Loop) → never_turns (constant_of (fold_expr loop.test)) ≡ true → QuietMove 1 w c (loop_move o w c loop)
   loop_quiet loop h = pick (constant_of (fold_expr loop.test)) refl h
@@ -184,7 +184,7 @@ module _ (k : PlainKernel) (uses : List ℕ) (w : List ℤ) (c : List VarCopy) w
   then_quiet list e n (Moves R w' c' u) q = let less = q.3 in ((q.0, e), q.1, q.2, omega arith)
   then_quiet list e n (Traps place trap u) q = absurd q
 
-  pub quiet_move : (path : Path) (R : Text) → Quiet R → QuietMove (text_rest R) w c (text_move k path uses w c R)
+  pub quiet_move : (path : Path) (R : RunningText) → Quiet R → QuietMove (text_rest R) w c (text_move k path uses w c R)
   quiet_move path Done q = tt
   quiet_move path (Run s) q = statement_quiet s q
   quiet_move path (Then R (Go_on list)) q = then_quiet list q.1 (text_rest R) (text_move k path uses w c R) (quiet_move path R q.0)
@@ -198,16 +198,16 @@ module _ (k : PlainKernel) (uses : List ℕ) (w : List ℤ) (c : List VarCopy) w
 
   -- ---- statements
 
-  assigned_like : (S : Text) (to : Spot) (n : ℤ) → MoveLike S (assigned o w c to n) (assigned o' w c to n)
+  assigned_like : (S : RunningText) (to : Spot) (n : ℤ) → MoveLike S (assigned o w c to n) (assigned o' w c to n)
   assigned_like S (spot.Local slot) n = (refl, refl, refl, omega arith)
   assigned_like S (spot.Variable v) n = (refl, refl, refl, omega arith)
 
-  assigned_at_like : (S : Text) (slot : ℕ) (i : Option ℕ) (x : ℤ) (place : Place) →
+  assigned_at_like : (S : RunningText) (slot : ℕ) (i : Option ℕ) (x : ℤ) (place : Place) →
       MoveLike S (assigned_at w c slot i x place) (assigned_at w c slot i x place)
   assigned_at_like S slot (Some i) x place = (refl, refl, refl, omega arith)
   assigned_at_like S slot None x place = (refl, refl, omega arith)
 
-  shared_at_like : (S : Text) (v : ℕ) (i : Option ℕ) (x : ℤ) (place : Place) →
+  shared_at_like : (S : RunningText) (v : ℕ) (i : Option ℕ) (x : ℤ) (place : Place) →
       MoveLike S (shared_at o w c v i x place) (shared_at o' w c v i x place)
   shared_at_like S v (Some i) x place = (refl, refl, refl, omega arith)
   shared_at_like S v None x place = (refl, refl, omega arith)
@@ -245,7 +245,7 @@ module _ (k : PlainKernel) (uses : List ℕ) (w : List ℤ) (c : List VarCopy) w
   started_like (b ∷ bs) (ns ∷ lists) =
       (text_of (body_of (folded_kernel k) b.thread), started o' c (fold_branches bs) lists, like_body k b.thread, started_like bs lists, refl)
 
-  forked_like : (S : Text) (bs : List Branch) (x y : Arguments) → ArgumentsLike x y →
+  forked_like : (S : RunningText) (bs : List Branch) (x y : Arguments) → ArgumentsLike x y →
       MoveLike S (forked o w c bs x) (forked o' w c (fold_branches bs) y)
   forked_like S bs (Ready lists u) (Ready lists' v) l =
       let le = l.1 in
@@ -255,8 +255,8 @@ module _ (k : PlainKernel) (uses : List ℕ) (w : List ℤ) (c : List VarCopy) w
   forked_like S bs (Refused place trap u) (Ready lists' v) l = absurd l
   forked_like S bs (Refused place trap u) (Refused place' trap' v) l = l
 
-  entered_like : (S : Text) (weak : Bool) (e : Expr) (body : Stmt) (n : ℤ) →
-      MoveLike S (Moves (entered weak e body n) w c 1) (Moves (entered weak (fold_expr e) (fold_stmt body) n) w c 1)
+  entered_like : (S : RunningText) (weak : Bool) (e : Expr) (body : Stmt) (n : ℤ) →
+      MoveLike S (Moves (entered_abort weak e body n) w c 1) (Moves (entered_abort weak (fold_expr e) (fold_stmt body) n) w c 1)
   entered_like S false e body n = pick (is_zero n)
     where
       pick : (z : Bool) →
@@ -327,7 +327,7 @@ module _ (k : PlainKernel) (uses : List ℕ) (w : List ℤ) (c : List VarCopy) w
 
   -- ---- loops
 
-  turned_like : (S : Text) (loop : Loop) (left : Option ℕ) → MoveLike S (turned loop left w c) (turned (fold_loop loop) left w c)
+  turned_like : (S : RunningText) (loop : Loop) (left : Option ℕ) → MoveLike S (turned_loop loop left w c) (turned_loop (fold_loop loop) left w c)
   turned_like S loop None = ((text_of (fold_stmt loop.body), like_text loop.body, refl), refl, refl, omega arith)
   turned_like S loop (Some zero) = (refl, refl, omega arith)
   turned_like S loop (Some (suc m)) = ((text_of (fold_stmt loop.body), like_text loop.body, refl), refl, refl, omega arith)
@@ -337,14 +337,14 @@ module _ (k : PlainKernel) (uses : List ℕ) (w : List ℤ) (c : List VarCopy) w
       with_like (Turning (fold_loop loop)) (evaluated o w c loop.test) (evaluated o' w c (fold_expr loop.test)) _ _ (value_like loop.test) (λ n. pick (is_zero n))
     where
       pick : (z : Bool) →
-          MoveLike (Turning (fold_loop loop)) (elim z [ true ↦ Moves Done w c 1 | false ↦ turned loop loop.left w c ])
-          (elim z [ true ↦ Moves Done w c 1 | false ↦ turned (fold_loop loop) loop.left w c ])
+          MoveLike (Turning (fold_loop loop)) (elim z [ true ↦ Moves Done w c 1 | false ↦ turned_loop loop loop.left w c ])
+          (elim z [ true ↦ Moves Done w c 1 | false ↦ turned_loop (fold_loop loop) loop.left w c ])
       pick true = (refl, refl, refl, omega arith)
       pick false = turned_like (Turning (fold_loop loop)) loop loop.left
 
   -- ---- a fork none of whose children is running
 
-  combined_like : (S : Text) (cs ds : Threads) → LikeThreads cs ds → (x y : Cost) → CostLike x y →
+  combined_like : (S : RunningText) (cs ds : Threads) → LikeThreads cs ds → (x y : Cost) → CostLike x y →
       MoveLike S (combined o w c cs x) (combined o' w c ds y)
   combined_like S cs ds l (Costs u) (Costs v) h = (
     subst (λ b. Like (cond (all_over cs) Done (Held (ended_are_gone cs))) (cond b Done (Held (ended_are_gone ds)))) (sym (all_over_like cs ds l)) (pick (all_over cs)),
@@ -360,7 +360,7 @@ module _ (k : PlainKernel) (uses : List ℕ) (w : List ℤ) (c : List VarCopy) w
   combined_like S cs ds l (Fails place trap u) (Costs v) h = absurd h
   combined_like S cs ds l (Fails place trap u) (Fails place' trap' v) h = h
 
-  pub joined_like : (S : Text) (cs ds : Threads) → LikeThreads cs ds →
+  pub joined_like : (S : RunningText) (cs ds : Threads) → LikeThreads cs ds →
       MoveLike S (joined o w c cs (first_trap cs)) (joined o' w c ds (first_trap ds))
   joined_like S cs ds l =
       subst (λ x. MoveLike S (joined o w c cs (first_trap cs)) (joined o' w c ds x)) (sym (first_trap_like cs ds l)) (pick (first_trap cs))

@@ -5,7 +5,7 @@ use Rattle.forec_kernel.specs.declared.shape.VarCopy.{VarCopy}
 use Rattle.forec_base.specs.Numbers.{is_zero}
 use Rattle.forec_kernel.specs.Terms.{Stmt, Nop, Set, SetAt, PutAt, Clear, Seq, If, While, Pause, Par, Enter, Return, Stmts, no_stmts, more_stmts}
 use Rattle.forec_kernel.specs.Shapes.{PlainKernel}
-use Rattle.forec_kernel.specs.Texts.{Text, text_of, uses_of, words_of, body_of}
+use Rattle.forec_kernel.specs.Texts.{RunningText, text_of, uses_of, words_of, body_of}
 use Rattle.forec_kernel.specs.Steps.{Move, Finished, Halts, Moves, Traps, Path, text_move}
 use Rattle.forec_kernel.specs.WellFormed.{function_body}
 use Rattle.bound_laws.specs.Paced.{NotEnded, KeepsOn, NeverEnds, PacedLoop, PacedStmt, PacedStmts, Bounded, AllBounded, Paced}
@@ -17,22 +17,22 @@ use Rattle.kernel_fold.proofs.Moves.{StepLike}
 use Rattle.kernel_fold.proofs.Stepping.{step_like}
 
 module _ (k : PlainKernel) (uses : List ℕ) where
-  abbrev Always : Text → List ℤ → List VarCopy → Type 0
+  abbrev Always : RunningText → List ℤ → List VarCopy → Type 0
   Always R w c = (n : ℕ) → KeepsOn k uses n R w c
 
   abbrev AlwaysAfter : Move → Type 0
   AlwaysAfter m = (n : ℕ) → NotEnded (KeepsOn k uses n) m
 
-  abbrev Keeps' : ℕ → Text → List ℤ → List VarCopy → Type 0
+  abbrev Keeps' : ℕ → RunningText → List ℤ → List VarCopy → Type 0
   Keeps' m S w c = KeepsOn (folded_kernel k) uses m S w c
 
-  module _ (m : ℕ) (ih : (R S : Text) (w : List ℤ) (c : List VarCopy) → Like R S → Always R w c → Keeps' m S w c) (path : Path) (S : Text) (w : List ℤ) (c : List VarCopy) where
+  module _ (m : ℕ) (ih : (R S : RunningText) (w : List ℤ) (c : List VarCopy) → Like R S → Always R w c → Keeps' m S w c) (path : Path) (S : RunningText) (w : List ℤ) (c : List VarCopy) where
     -- what the folded text's step comes to
     abbrev Next : Type 0
     Next = NotEnded (Keeps' m) (text_move (folded_kernel k) path uses w c S)
 
     after_step : (n : ℕ) (x y : Move) → StepLike n w c S x y → AlwaysAfter x →
-        ((R : Text) → text_rest R < n → Like R S → Always R w c → NotEnded (Keeps' m) y) → NotEnded (Keeps' m) y
+        ((R : RunningText) → text_rest R < n → Like R S → Always R w c → NotEnded (Keeps' m) y) → NotEnded (Keeps' m) y
     after_step n Finished y (inl l) h more = absurd l
     after_step n Halts y (inl l) h more = absurd l
     after_step n (Moves R w1 c1 u) y (inl l) h more =
@@ -46,13 +46,13 @@ module _ (k : PlainKernel) (uses : List ℕ) where
     after_step n _ _ (inr l) h more = absurd l
 
     -- the text goes on until the folded one steps
-    catch_up : (b : ℕ) (R : Text) → text_rest R < b → Like R S → Always R w c → Next
+    catch_up : (b : ℕ) (R : RunningText) → text_rest R < b → Like R S → Always R w c → Next
     catch_up zero R less l h = absurd (omega arith)
     catch_up (suc b) R less l h =
         after_step (text_rest R) (text_move k path uses w c R) (text_move (folded_kernel k) path uses w c S) (step_like k path uses w c R S l)
         (λ n. h (suc n) path) (λ R1 fewer l1 h1. catch_up b R1 (omega arith) l1 h1)
 
-  keeps_like : (m : ℕ) (R S : Text) (w : List ℤ) (c : List VarCopy) → Like R S → Always R w c → Keeps' m S w c
+  keeps_like : (m : ℕ) (R S : RunningText) (w : List ℤ) (c : List VarCopy) → Like R S → Always R w c → Keeps' m S w c
   keeps_like zero R S w c l h = tt
   keeps_like (suc m) R S w c l h =
       λ path. catch_up m (λ R1 S1 w1 c1 l1 h1. keeps_like m R1 S1 w1 c1 l1 h1) path S w c (suc (text_rest R)) R (omega arith) l h

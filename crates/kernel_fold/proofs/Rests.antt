@@ -1,7 +1,7 @@
 -- How much of a text is left that folding may have taken away: each step that the folded text doesn't take makes it less.
 use Rattle.std.proofs.Common.{ℕ, ◌+◌, ◌≤◌, arith}
 use Rattle.forec_kernel.specs.Terms.{Stmt, Nop, Set, SetAt, PutAt, Clear, Seq, If, While, Pause, Par, Enter, Return, Stmts, no_stmts, more_stmts}
-use Rattle.forec_kernel.specs.Texts.{Go_on, Again, Text, Done, Run, Then, Turning, Resting, Fork, Held, Watch, Last, Threads, no_threads, child, text_of, texts_of}
+use Rattle.forec_kernel.specs.Texts.{Go_on, Again, RunningText, Done, Run, Then, Turning, Resting, Fork, Held, Watch, Last, Threads, no_threads, child, text_of, texts_of}
 
 abbrev mutual
   pub stmt_rest : Stmt → ℕ
@@ -23,7 +23,7 @@ abbrev mutual
   stmts_rest (more_stmts s rest) = stmt_rest s + 1 + stmts_rest rest
 
 abbrev mutual
-  pub text_rest : Text → ℕ
+  pub text_rest : RunningText → ℕ
   text_rest Done = 0
   text_rest (Run s) = stmt_rest s
   text_rest (Then R (Go_on list)) = text_rest R + 1 + stmts_rest list

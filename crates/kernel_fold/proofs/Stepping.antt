@@ -3,8 +3,8 @@ use Rattle.std.proofs.Common.{ℕ, zero, suc, ◌+◌, ◌<◌, ◌≤◌, ◌�
 use Rattle.forec_kernel.specs.declared.shape.VarCopy.{VarCopy}
 use Rattle.forec_kernel.specs.Terms.{Expr, Stmt, Stmts, no_stmts, more_stmts}
 use Rattle.forec_kernel.specs.Shapes.{PlainKernel}
-use Rattle.forec_kernel.specs.Texts.{Loop, Go_on, Again, Status, Trapped, Text, Done, Run, Then, Turning, Resting, Fork, Held, Watch, Last, Threads, no_threads, child, child_of, texts_of, then_list, some_running, first_running, runs_at, first_trap, uses_of}
-use Rattle.forec_kernel.specs.Steps.{Move, Finished, Halts, Moves, Traps, joined, move_before, move_watched, move_last, thread_after, units_of, Stepped, Path, place_at, path_below, text_move, child_move}
+use Rattle.forec_kernel.specs.Texts.{Loop, Go_on, Again, Status, Trapped, RunningText, Done, Run, Then, Turning, Resting, Fork, Held, Watch, Last, Threads, no_threads, child, child_of, texts_of, then_list, some_running, first_running, runs_at, first_trap, uses_of}
+use Rattle.forec_kernel.specs.Steps.{Move, Finished, Halts, Moves, Traps, joined, move_before, move_watched, move_last, thread_after, move_units, SteppedChildren, Path, child_place, path_below, text_move, child_move}
 use Rattle.kernel_fold.specs.Folding.{fold_expr, fold_stmts, folded_kernel}
 use Rattle.kernel_fold.proofs.Texts.{fold_loop, going, skipped, Like, LikeThreads, quiet_texts, quiet_like, like_texts, some_running_like, first_running_like, runs_at_like}
 use Rattle.kernel_fold.proofs.Rests.{stmts_rest, text_rest, threads_rest, texts_of_rest}
@@ -12,7 +12,7 @@ use Rattle.kernel_fold.proofs.Moves.{StepLike, QuietMove, quiet_waits, end_move,
 
 -- ---- where a path leads
 
-place_like : (path : Path) (cs ds : Threads) → LikeThreads cs ds → place_at path ds ≡ place_at path cs
+place_like : (path : Path) (cs ds : Threads) → LikeThreads cs ds → child_place path ds ≡ child_place path cs
 place_like [] cs ds l = first_running_like cs ds l
 place_like (i ∷ path) cs ds l =
     ap (λ b. cond b i (first_running ds)) (runs_at_like i cs ds l) ∙ ap (cond (runs_at i cs) i) (first_running_like cs ds l)
@@ -24,7 +24,7 @@ below_like (i ∷ path) cs ds l = ap (λ b. cond b path []) (runs_at_like i cs d
 -- ---- a step of the child at a place
 
 -- the children go together afterwards; or the folded ones wait, and less than n is left
-abbrev pub ChildLike : ℕ → Threads → Stepped → Stepped → Type 0
+abbrev pub ChildLike : ℕ → Threads → SteppedChildren → SteppedChildren → Type 0
 ChildLike n ds s s' =
     (LikeThreads s.children ds × (threads_rest s.children < n)) ⊎ (LikeThreads s.children s'.children × (s'.units ≤ s.units))
 
@@ -33,7 +33,7 @@ module _ (w : List ℤ) (c : List VarCopy) where
 
   module _ (list : Stmts) where
     -- nothing is left of the folded list
-    before_nothing : (S : Text) → fold_stmts list ≡ no_stmts → (n : ℕ) (m m' : Move) → StepLike n w c S m m' →
+    before_nothing : (S : RunningText) → fold_stmts list ≡ no_stmts → (n : ℕ) (m m' : Move) → StepLike n w c S m m' →
         StepLike (n + 1 + stmts_rest list) w c S (move_before (Go_on list) w c m) m'
     before_nothing S e n Finished m' (inl l) = absurd l
     before_nothing S e n Halts m' (inl l) = absurd l
@@ -45,7 +45,7 @@ module _ (w : List ℤ) (c : List VarCopy) where
     before_nothing S e n (Traps place trap u) (Traps place' trap' v) (inr l) = inr l
     before_nothing S e n _ _ (inr l) = absurd l
 
-    before_more : (S : Text) (x : Stmt) (rest : Stmts) → fold_stmts list ≡ more_stmts x rest → (n : ℕ) (m m' : Move) → StepLike n w c S m m' →
+    before_more : (S : RunningText) (x : Stmt) (rest : Stmts) → fold_stmts list ≡ more_stmts x rest → (n : ℕ) (m m' : Move) → StepLike n w c S m m' →
         StepLike (n + 1 + stmts_rest list) w c (Then S (Go_on (more_stmts x rest))) (move_before (Go_on list) w c m) (move_before (Go_on (more_stmts x rest)) w c m')
     before_more S x rest e n Finished m' (inl l) = absurd l
     before_more S x rest e n Halts m' (inl l) = absurd l
@@ -58,7 +58,7 @@ module _ (w : List ℤ) (c : List VarCopy) where
     before_more S x rest e n _ _ (inr l) = absurd l
 
     -- the folded list has begun
-    before_skipped : (S : Text) → S ≡ texts_of (fold_stmts list) → (n : ℕ) (m m' : Move) → QuietMove n w c m →
+    before_skipped : (S : RunningText) → S ≡ texts_of (fold_stmts list) → (n : ℕ) (m m' : Move) → QuietMove n w c m →
         StepLike (n + 1 + stmts_rest list) w c S (move_before (Go_on list) w c m) m'
     before_skipped S e n Finished m' q =
         inl (subst (λ T. Like (texts_of list) T) (sym e) (like_texts list), refl, refl, omega (arith, texts_of_rest list))
@@ -66,7 +66,7 @@ module _ (w : List ℤ) (c : List VarCopy) where
     before_skipped S e n (Moves R w' c' u) m' q = let less = q.3 in inl (skipped q.0 e, q.1, q.2, omega arith)
     before_skipped S e n (Traps place trap u) m' q = absurd q
 
-  before_again : (loop : Loop) (S : Text) (n : ℕ) (m m' : Move) → StepLike n w c S m m' →
+  before_again : (loop : Loop) (S : RunningText) (n : ℕ) (m m' : Move) → StepLike n w c S m m' →
       StepLike (n + 1) w c (Then S (Again (fold_loop loop))) (move_before (Again loop) w c m) (move_before (Again (fold_loop loop)) w c m')
   before_again loop S n Finished m' (inl l) = absurd l
   before_again loop S n Halts m' (inl l) = absurd l
@@ -78,7 +78,7 @@ module _ (w : List ℤ) (c : List VarCopy) where
   before_again loop S n (Traps place trap u) (Traps place' trap' v) (inr l) = inr l
   before_again loop S n _ _ (inr l) = absurd l
 
-  watched_like : (weak : Bool) (e : Expr) (S : Text) (n : ℕ) (m m' : Move) → StepLike n w c S m m' →
+  watched_like : (weak : Bool) (e : Expr) (S : RunningText) (n : ℕ) (m m' : Move) → StepLike n w c S m m' →
       StepLike (n + 1) w c (Watch weak (fold_expr e) S) (move_watched weak e w c m) (move_watched weak (fold_expr e) w c m')
   watched_like weak e S n Finished m' (inl l) = absurd l
   watched_like weak e S n Halts m' (inl l) = absurd l
@@ -90,7 +90,7 @@ module _ (w : List ℤ) (c : List VarCopy) where
   watched_like weak e S n (Traps place trap u) (Traps place' trap' v) (inr l) = inr l
   watched_like weak e S n _ _ (inr l) = absurd l
 
-  last_like : (S : Text) (n : ℕ) (m m' : Move) → StepLike n w c S m m' → StepLike (n + 1) w c (Last S) (move_last w c m) (move_last w c m')
+  last_like : (S : RunningText) (n : ℕ) (m m' : Move) → StepLike n w c S m m' → StepLike (n + 1) w c (Last S) (move_last w c m) (move_last w c m')
   last_like S n Finished m' (inl l) = absurd l
   last_like S n Halts m' (inl l) = absurd l
   last_like S n (Moves R w' c' u) m' (inl l) = let less = l.3 in inl ((S, l.0, refl), l.1, l.2, omega arith)
@@ -103,19 +103,19 @@ module _ (w : List ℤ) (c : List VarCopy) where
 
   -- ---- children
 
-  module _ (t : ℕ) (R : Text) (st : Status) (rest : Threads) (S : Text) (es : Threads) (l : Like R S) (r : LikeThreads rest es) where
-    abbrev here : Move → Stepped
+  module _ (t : ℕ) (R : RunningText) (st : Status) (rest : Threads) (S : RunningText) (es : Threads) (l : Like R S) (r : LikeThreads rest es) where
+    abbrev here : Move → SteppedChildren
     here m =
         record {
           children = child_of (thread_after (record { number = t; text = R; words = w; copies = c; status = st }) m) rest;
-          units = units_of m;
+          units = move_units m;
         }
 
-    abbrev there : Move → Stepped
+    abbrev there : Move → SteppedChildren
     there m =
         record {
           children = child_of (thread_after (record { number = t; text = S; words = w; copies = c; status = st }) m) es;
-          units = units_of m;
+          units = move_units m;
         }
 
     one_like : (n : ℕ) (m m' : Move) → StepLike n w c S m m' → ChildLike (n + threads_rest rest) (child t S w c st es) (here m) (there m')
@@ -133,7 +133,7 @@ module _ (w : List ℤ) (c : List VarCopy) where
         inr ((S, es, l, r, ap (λ x. child t S w c (Trapped x trap') es) h.0 ∙ ap (λ x. child t S w c (Trapped place x) es) h.1), h.2)
     one_like n _ _ (inr h) = absurd h
 
-    later_like : (n : ℕ) (s s' : Stepped) → ChildLike n es s s' →
+    later_like : (n : ℕ) (s s' : SteppedChildren) → ChildLike n es s s' →
         ChildLike (text_rest R + n) (child t S w c st es)
         (record { children = child t R w c st s.children; units = s.units }) (record { children = child t S w c st s'.children; units = s'.units })
     later_like n s s' (inl h) = let less = h.1 in inl ((S, es, l, h.0, refl), omega arith)
@@ -160,26 +160,26 @@ module _ (k : PlainKernel) where
 
   -- the folded children step at the same place, along the same path
   fork_same : (path : Path) (uses : List ℕ) (w : List ℤ) (c : List VarCopy) (cs ds : Threads) (l : LikeThreads cs ds) →
-      fork_step (folded_kernel k) (path_below path ds) (place_at path ds) uses w c ds (some_running ds)
-      ≡ fork_step (folded_kernel k) (path_below path cs) (place_at path cs) uses w c ds (some_running cs)
+      fork_step (folded_kernel k) (path_below path ds) (child_place path ds) uses w c ds (some_running ds)
+      ≡ fork_step (folded_kernel k) (path_below path cs) (child_place path cs) uses w c ds (some_running cs)
   fork_same path uses w c cs ds l =
-      ap (λ p. fork_step (folded_kernel k) p (place_at path ds) uses w c ds (some_running ds)) (below_like path cs ds l)
+      ap (λ p. fork_step (folded_kernel k) p (child_place path ds) uses w c ds (some_running ds)) (below_like path cs ds l)
       ∙ ap (λ i. fork_step (folded_kernel k) (path_below path cs) i uses w c ds (some_running ds)) (place_like path cs ds l)
-      ∙ ap (λ b. fork_step (folded_kernel k) (path_below path cs) (place_at path cs) uses w c ds b) (some_running_like cs ds l)
+      ∙ ap (λ b. fork_step (folded_kernel k) (path_below path cs) (child_place path cs) uses w c ds b) (some_running_like cs ds l)
 
   -- the step of the folded text
-  abbrev pub step' : Path → List ℕ → List ℤ → List VarCopy → Text → Move
+  abbrev pub step' : Path → List ℕ → List ℤ → List VarCopy → RunningText → Move
   step' path uses w c S = text_move (folded_kernel k) path uses w c S
 
   -- a text before a list
-  list_like : (path : Path) (uses : List ℕ) (w : List ℤ) (c : List VarCopy) (list : Stmts) (S : Text) (n : ℕ) (m : Move) →
+  list_like : (path : Path) (uses : List ℕ) (w : List ℤ) (c : List VarCopy) (list : Stmts) (S : RunningText) (n : ℕ) (m : Move) →
       StepLike n w c S m (step' path uses w c S) → (xs : Stmts) → fold_stmts list ≡ xs →
       StepLike (n + 1 + stmts_rest list) w c (then_list S xs) (move_before (Go_on list) w c m) (step' path uses w c (then_list S xs))
   list_like path uses w c list S n m h no_stmts e = before_nothing w c list S e n m (step' path uses w c S) h
   list_like path uses w c list S n m h (more_stmts x rest) e = before_more w c list S x rest e n m (step' path uses w c S) h
 
   mutual
-    pub step_like : (path : Path) (uses : List ℕ) (w : List ℤ) (c : List VarCopy) (R S : Text) → Like R S →
+    pub step_like : (path : Path) (uses : List ℕ) (w : List ℤ) (c : List VarCopy) (R S : RunningText) → Like R S →
         StepLike (text_rest R) w c S (text_move k path uses w c R) (step' path uses w c S)
     step_like path uses w c Done S l = subst (λ m. StepLike 0 w c S Finished m) (sym (end_move k uses w c path S l)) (inr l)
     step_like path uses w c (Run s) S (inl q) =
@@ -205,7 +205,7 @@ module _ (k : PlainKernel) where
     step_like path uses w c (Fork cs) S l =
         subst (λ U. StepLike (threads_rest cs) w c U (text_move k path uses w c (Fork cs)) (step' path uses w c U)) (sym l.2)
         (subst (λ m. StepLike (threads_rest cs) w c (Fork l.0) (text_move k path uses w c (Fork cs)) m) (sym (fork_same path uses w c cs l.0 l.1))
-        (fork_like (path_below path cs) (place_at path cs) uses w c cs l.0 l.1 (child_like (path_below path cs) (place_at path cs) cs l.0 l.1) (some_running cs)))
+        (fork_like (path_below path cs) (child_place path cs) uses w c cs l.0 l.1 (child_like (path_below path cs) (child_place path cs) cs l.0 l.1) (some_running cs)))
     step_like path uses w c (Held cs) S l =
         subst (λ U. StepLike 0 w c U Halts (step' path uses w c U)) (sym l.2) (inr tt)
     step_like path uses w c (Watch weak e R) S l =

@@ -2,7 +2,7 @@
 use Rattle.std.proofs.Common.{ℕ, zero, suc, ◌≡◌, ◌⊎◌, inl, inr, Bool, true, false, cond, ◌&&◌, ◌∷◌, refl, ap, sym, subst, ◌∙◌}
 use Rattle.forec_kernel.specs.Terms.{Stmt, Nop, Set, SetAt, PutAt, Clear, Seq, If, While, Pause, Par, Enter, Return, Stmts, no_stmts, more_stmts}
 use Rattle.forec_kernel.specs.Shapes.{PlainKernel}
-use Rattle.forec_kernel.specs.Texts.{Loop, Go_on, Again, Text, Done, Run, Then, Turning, Resting, Fork, Held, Watch, Last, Threads, no_threads, child, text_of, texts_of, then_list, is_active, is_running, is_over, some_running, all_over, first_running, runs_at, first_some, trap_of, first_trap, ended_are_gone, uses_of, body_of}
+use Rattle.forec_kernel.specs.Texts.{Loop, Go_on, Again, RunningText, Done, Run, Then, Turning, Resting, Fork, Held, Watch, Last, Threads, no_threads, child, text_of, texts_of, then_list, is_active, is_running, is_over, some_running, all_over, first_running, runs_at, first_some, trap_of, first_trap, ended_are_gone, uses_of, body_of}
 use Rattle.forec_kernel.specs.Combining.{Share, contains, shares, count_threads}
 use Rattle.forec_kernel.specs.Values.{copy_of}
 use Rattle.kernel_fold.specs.Folding.{constant_of, fold_expr, is_nop, unless_nop, in_sequence, never_turns, fold_stmt, fold_stmts, folded_kernel}
@@ -18,13 +18,13 @@ stmt_ends Nop = true
 stmt_ends (Return e) = true
 stmt_ends _ = false
 
-abbrev pub text_ends : Text → Bool
+abbrev pub text_ends : RunningText → Bool
 text_ends Done = true
 text_ends (Run s) = stmt_ends s
 text_ends _ = false
 
 -- all that is left was folded away
-abbrev pub Quiet : Text → Type 0
+abbrev pub Quiet : RunningText → Type 0
 Quiet Done = Unit {0}
 Quiet (Run s) = fold_stmt s ≡ Nop
 Quiet (Then R (Go_on list)) = Quiet R × (fold_stmts list ≡ no_stmts)
@@ -37,28 +37,28 @@ Quiet (Watch weak e R) = ⊥
 Quiet (Last R) = ⊥
 
 -- A text before a list: the folded one before the folded list. Where all that is left of the text was folded away, the folded list may have begun.
-pub data Follows (Before : Type 0) (L : Text → Type 0) (list : Stmts) (R' : Text) : Type 0 where
-  going : (S : Text) → L S → R' ≡ then_list S list → Follows Before L list R'
+pub data Follows (Before : Type 0) (L : RunningText → Type 0) (list : Stmts) (R' : RunningText) : Type 0 where
+  going : (S : RunningText) → L S → R' ≡ then_list S list → Follows Before L list R'
   skipped : Before → R' ≡ texts_of list → Follows Before L list R'
 
 abbrev mutual
-  pub Like : Text → Text → Type 0
+  pub Like : RunningText → RunningText → Type 0
   Like Done R' = text_ends R' ≡ true
   Like (Run s) R' = ((fold_stmt s ≡ Nop) × (text_ends R' ≡ true)) ⊎ (R' ≡ text_of (fold_stmt s))
   Like (Then R (Go_on list)) R' = Follows (Quiet R) (λ S. Like R S) (fold_stmts list) R'
-  Like (Then R (Again loop)) R' = (S : Text) × Like R S × (R' ≡ Then S (Again (fold_loop loop)))
+  Like (Then R (Again loop)) R' = (S : RunningText) × Like R S × (R' ≡ Then S (Again (fold_loop loop)))
   Like (Turning loop) R' =
       ((never_turns (constant_of (fold_expr loop.test)) ≡ true) × (text_ends R' ≡ true)) ⊎ (R' ≡ Turning (fold_loop loop))
   Like Resting R' = R' ≡ Resting
   Like (Fork cs) R' = (ds : Threads) × LikeThreads cs ds × (R' ≡ Fork ds)
   Like (Held cs) R' = (ds : Threads) × LikeThreads cs ds × (R' ≡ Held ds)
-  Like (Watch weak e R) R' = (S : Text) × Like R S × (R' ≡ Watch weak (fold_expr e) S)
-  Like (Last R) R' = (S : Text) × Like R S × (R' ≡ Last S)
+  Like (Watch weak e R) R' = (S : RunningText) × Like R S × (R' ≡ Watch weak (fold_expr e) S)
+  Like (Last R) R' = (S : RunningText) × Like R S × (R' ≡ Last S)
 
   pub LikeThreads : Threads → Threads → Type 0
   LikeThreads no_threads ds = ds ≡ no_threads
   LikeThreads (child t R w c st rest) ds =
-      (S : Text) × (es : Threads) × Like R S × LikeThreads rest es × (ds ≡ child t S w c st es)
+      (S : RunningText) × (es : Threads) × Like R S × LikeThreads rest es × (ds ≡ child t S w c st es)
 
 -- ---- lists without `nop`
 
@@ -122,7 +122,7 @@ mutual
   quiet_texts (more_stmts s (more_stmts r rest)) h =
       let d = unless_empty (fold_stmt s) (fold_stmts (more_stmts r rest)) h in (quiet_text s d.0, d.1)
 
-pub quiet_like : (R S : Text) → Quiet R → text_ends S ≡ true → Like R S
+pub quiet_like : (R S : RunningText) → Quiet R → text_ends S ≡ true → Like R S
 quiet_like Done S q e = e
 quiet_like (Run s) S q e = inl (q, e)
 quiet_like (Then R (Go_on list)) S q e = going S (quiet_like R S q.0 e) (sym (ap (then_list S) q.1))

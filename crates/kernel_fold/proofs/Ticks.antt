@@ -3,9 +3,9 @@ use Rattle.std.proofs.Common.{ℕ, zero, suc, ◌+◌, ◌≤◌, ◌≡◌, ◌
 use Rattle.std.proofs.lemmas.Bool.Decides.{nat_tests}
 use Rattle.forec_kernel.specs.declared.shape.Outcome.TheVariants as outcome
 use Rattle.forec_kernel.specs.Shapes.{PlainKernel}
-use Rattle.forec_kernel.specs.Texts.{Status, Trapped, Text, Thread, is_running, text_of, uses_of, body_of}
+use Rattle.forec_kernel.specs.Texts.{Status, Trapped, RunningText, Thread, is_running, text_of, uses_of, body_of}
 use Rattle.forec_kernel.specs.Steps.{Move, Finished, Halts, Moves, Traps, thread_move, text_move, woken, text_if, waking_units}
-use Rattle.forec_kernel.specs.Ticks.{Going, is_stopped, moved, State, Fresh, After_tick, unmarked, with_row, begin, Tick, values_of, outcome_of, concluded, finished, tick, goes_on, run_from, run_of}
+use Rattle.forec_kernel.specs.Ticks.{Going, is_stopped, moved, TickState, Fresh, After_tick, unmarked, with_row, begin, Tick, values_of, outcome_of, concluded, finished, tick, goes_on, run_from, run_of}
 use Rattle.forec_kernel.proofs.Ends.{leftmost, step_moves, step_stays, step_unless, Reaches, tick_in_time, ends}
 use Rattle.kernel_fold.specs.Laws.{tick_units, RunsAlike, UpToOver}
 use Rattle.kernel_fold.specs.Folding.{folded_kernel}
@@ -19,7 +19,7 @@ use Rattle.kernel_fold.proofs.Waking.{AwakeLike, awake_like, woken_like}
 
 -- the same but for the text and the units, of which there are no more
 pub record GoingLike (g g' : Going) : Type 0 where
-  pub text : Text
+  pub text : RunningText
   pub units : ℕ
   pub like : Like g.thread.text text
   pub fewer : units ≤ g.units
@@ -29,7 +29,7 @@ pub record GoingLike (g g' : Going) : Type 0 where
 abbrev Onward : PlainKernel → Going → Going → Move → Move → Type 0
 Onward k g g' m m' = GoingLike (moved g m) g' ⊎ GoingLike (moved g m) (moved g' m')
 
-module _ (k : PlainKernel) (g : Going) (S : Text) (v : ℕ) (l : Like g.thread.text S) (h : v ≤ g.units) where
+module _ (k : PlainKernel) (g : Going) (S : RunningText) (v : ℕ) (l : Like g.thread.text S) (h : v ≤ g.units) where
   abbrev mine : Going
   mine = record { thread = record g.thread { text = S }; units = v }
 
@@ -150,12 +150,12 @@ module _ (k : PlainKernel) (budget : ℕ) where
   one_stop j (suc n) zero g a b = stays j (suc n) g b
   one_stop j (suc n) (suc m) g a b = one_stop j n m (step_unless j stop [] g) a b
 
-  abbrev end_of : PlainKernel → State → List ℤ → Going
+  abbrev end_of : PlainKernel → TickState → List ℤ → Going
   end_of j old row = finished j stop (suc budget) (begin j old row)
 
   -- ---- between ticks
 
-  module _ (old old' : State) (row : List ℤ) (start : GoingLike (begin k old row) (begin (folded_kernel k) old' row)) where
+  module _ (old old' : TickState) (row : List ℤ) (start : GoingLike (begin k old row) (begin (folded_kernel k) old' row)) where
     reached : Reaches k stop (begin k old row) (end_of k old row)
     reached = ends k budget stop (tick_in_time budget) (suc budget) (begin k old row) (omega arith)
 
@@ -188,11 +188,11 @@ module _ (k : PlainKernel) (budget : ℕ) where
             ∙ or_true (not (is_running g.thread.status)) (nat_lt budget l.units) (or_from (not (is_running g.thread.status)) (nat_lt budget g.units) s h)
 
 -- states between ticks: the same but for the text
-abbrev StateLike : State → State → Type 0
+abbrev StateLike : TickState → TickState → Type 0
 StateLike Fresh old' = old' ≡ Fresh
-StateLike (After_tick t) old' = (S : Text) × Like t.text S × (old' ≡ After_tick (record t { text = S }))
+StateLike (After_tick t) old' = (S : RunningText) × Like t.text S × (old' ≡ After_tick (record t { text = S }))
 
-woken_going : (k : PlainKernel) (t : Thread) (row : List ℤ) (S : Text) → Like t.text S →
+woken_going : (k : PlainKernel) (t : Thread) (row : List ℤ) (S : RunningText) → Like t.text S →
     GoingLike (begin k (After_tick t) row) (begin (folded_kernel k) (After_tick (record t { text = S })) row)
 woken_going k t row S l =
     let c = with_row (uses_of k 0) k.shape.inputs row (unmarked t.copies) in
@@ -211,7 +211,7 @@ woken_going k t row S l =
           }) a.status;
     }
 
-begin_like : (k : PlainKernel) (old old' : State) (row : List ℤ) → StateLike old old' → GoingLike (begin k old row) (begin (folded_kernel k) old' row)
+begin_like : (k : PlainKernel) (old old' : TickState) (row : List ℤ) → StateLike old old' → GoingLike (begin k old row) (begin (folded_kernel k) old' row)
 begin_like k Fresh old' row l =
     subst (λ s. GoingLike (begin k Fresh row) (begin (folded_kernel k) s row)) (sym l)
     (record { text = text_of (body_of (folded_kernel k) 0); units = 0; like = like_body k 0; fewer = omega arith; is = refl })
@@ -219,7 +219,7 @@ begin_like k (After_tick t) old' row l =
     subst (λ s. GoingLike (begin k (After_tick t) row) (begin (folded_kernel k) s row)) (sym l.2) (woken_going k t row l.0 l.1)
 
 -- a tick that isn't over, and the folded one
-pub record TickLike (k : PlainKernel) (budget : ℕ) (old old' : State) (row : List ℤ) : Type 0 where
+pub record TickLike (k : PlainKernel) (budget : ℕ) (old old' : TickState) (row : List ℤ) : Type 0 where
   pub outcome : (tick (folded_kernel k) budget old' row).outcome ≡ (tick k budget old row).outcome
   pub outputs : (tick (folded_kernel k) budget old' row).outputs ≡ (tick k budget old row).outputs
   pub state : StateLike (tick k budget old row).state (tick (folded_kernel k) budget old' row).state
@@ -229,16 +229,16 @@ abbrev not_over : PlainKernel → Going → Tick
 not_over k g =
     record { outcome = outcome_of g.thread.status; outputs = values_of (uses_of k 0) g.thread.copies k.shape.outputs; state = After_tick g.thread }
 
-concluded_is : (k : PlainKernel) (budget : ℕ) (old : State) (g : Going) → nat_lt budget g.units ≡ false → concluded k budget old g ≡ not_over k g
+concluded_is : (k : PlainKernel) (budget : ℕ) (old : TickState) (g : Going) → nat_lt budget g.units ≡ false → concluded k budget old g ≡ not_over k g
 concluded_is k budget old g e = rw (concluded, e)
 
-abbrev over_tick : State → Tick
+abbrev over_tick : TickState → Tick
 over_tick old = record { outcome = outcome.Over; outputs = []; state = old }
 
-concluded_over : (k : PlainKernel) (budget : ℕ) (old : State) (g : Going) → nat_lt budget g.units ≡ true → concluded k budget old g ≡ over_tick old
+concluded_over : (k : PlainKernel) (budget : ℕ) (old : TickState) (g : Going) → nat_lt budget g.units ≡ true → concluded k budget old g ≡ over_tick old
 concluded_over k budget old g e = rw (concluded, e)
 
-tick_like : (k : PlainKernel) (budget : ℕ) (old old' : State) (row : List ℤ) → StateLike old old' →
+tick_like : (k : PlainKernel) (budget : ℕ) (old old' : TickState) (row : List ℤ) → StateLike old old' →
     ((tick k budget old row).outcome ≢ outcome.Over) → TickLike k budget old old' row
 tick_like k budget old old' row s n = pick (nat_lt budget (end_of k budget k old row).units) refl
   where
@@ -276,7 +276,7 @@ tick_like k budget old old' row s n = pick (nat_lt budget (end_of k budget k old
 
 -- ---- runs
 
-pub runs_alike : (k : PlainKernel) (budget : ℕ) (old old' : State) (rows : List (List ℤ)) → StateLike old old' → RunsAlike k (folded_kernel k) budget old old' rows
+pub runs_alike : (k : PlainKernel) (budget : ℕ) (old old' : TickState) (rows : List (List ℤ)) → StateLike old old' → RunsAlike k (folded_kernel k) budget old old' rows
 runs_alike k budget old old' [] s = tt
 runs_alike k budget old old' (row ∷ rows) s =
     λ n.
@@ -300,7 +300,7 @@ unlike' : (a b : Bool) → a ≡ b → a ≡ false → b ≡ true → ⊥
 unlike' true b e f g = cc
 unlike' false b e f g = cc
 
-lists_alike : (k : PlainKernel) (budget : ℕ) (old old' : State) (rows : List (List ℤ)) → StateLike old old' →
+lists_alike : (k : PlainKernel) (budget : ℕ) (old old' : TickState) (rows : List (List ℤ)) → StateLike old old' →
     UpToOver (run_from k budget old rows) (run_from (folded_kernel k) budget old' rows)
 lists_alike k budget old old' [] s = refl
 lists_alike k budget old old' (row ∷ rows) s =
@@ -308,7 +308,7 @@ lists_alike k budget old old' (row ∷ rows) s =
     (λ x y h. lists_alike k budget x y rows h)
   where
     pick : (b b' : Bool) → goes_on (tick k budget old row).outcome ≡ b → goes_on (tick (folded_kernel k) budget old' row).outcome ≡ b' →
-        ((x y : State) → StateLike x y → UpToOver (run_from k budget x rows) (run_from (folded_kernel k) budget y rows)) →
+        ((x y : TickState) → StateLike x y → UpToOver (run_from k budget x rows) (run_from (folded_kernel k) budget y rows)) →
         UpToOver (run_on k budget (tick k budget old row) rows b) (run_on (folded_kernel k) budget (tick (folded_kernel k) budget old' row) rows b')
     pick true true e f ih =
         λ n.

@@ -5,8 +5,8 @@ use Rattle.forec_kernel.specs.declared.shape.VarCopy.{VarCopy}
 use Rattle.forec_kernel.specs.Terms.{Expr, Stmt, Nop, Set, SetAt, PutAt, Clear, Seq, If, While, Pause, Par, Enter, Return, Stmts, no_stmts, more_stmts}
 use Rattle.forec_kernel.specs.Shapes.{PlainKernel}
 use Rattle.forec_kernel.specs.Values.{Value, Gives, Raises}
-use Rattle.forec_kernel.specs.Texts.{Go_on, Again, Running, Paused, Ended, Gone, Trapped, Text, Done, Run, Then, Turning, Resting, Fork, Held, Watch, Last, Threads, no_threads, child, text_of, texts_of, then_list, uses_of, handed_down}
-use Rattle.forec_kernel.specs.Steps.{Woken, Wakes, Stays, more_woken, woken_in, woken_with, watched_on, text_if, status_of, waking_units, woken, woken_children, evaluated, Stepped}
+use Rattle.forec_kernel.specs.Texts.{Go_on, Again, Running, Paused, Ended, Gone, Trapped, RunningText, Done, Run, Then, Turning, Resting, Fork, Held, Watch, Last, Threads, no_threads, child, text_of, texts_of, then_list, uses_of, handed_down}
+use Rattle.forec_kernel.specs.Steps.{Woken, Wakes, Stays, more_woken, woken_in, woken_with, watched_on, text_if, status_of, waking_units, woken, woken_children, evaluated, SteppedChildren}
 use Rattle.kernel_fold.specs.Laws.{NoWorse}
 use Rattle.kernel_fold.specs.Folding.{fold_expr, fold_stmt, fold_stmts, folded_kernel}
 use Rattle.kernel_fold.proofs.Texts.{fold_loop, text_ends, Quiet, going, skipped, Like, LikeThreads}
@@ -32,7 +32,7 @@ with_woken (Gives n u) (Raises place trap v) go go' l f = absurd l
 with_woken (Raises place trap u) (Gives m v) go go' l f = absurd l
 with_woken (Raises place trap u) (Raises place' trap' v) go go' l f = l
 
-inside : (f g : Text → Text) → ((R S : Text) → Like R S → Like (f R) (g S)) → (x y : Woken) → WokenLike x y → WokenLike (woken_in f x) (woken_in g y)
+inside : (f g : RunningText → RunningText) → ((R S : RunningText) → Like R S → Like (f R) (g S)) → (x y : Woken) → WokenLike x y → WokenLike (woken_in f x) (woken_in g y)
 inside f g h (Wakes R u) (Wakes S v) l = (h R S l.0, l.1)
 inside f g h (Wakes R u) (Stays place trap v) l = absurd l
 inside f g h (Stays place trap u) (Wakes S v) l = absurd l
@@ -73,7 +73,7 @@ module _ (k : PlainKernel) (uses : List ℕ) (w : List ℤ) (c : List VarCopy) w
     texts_awake (more_stmts s no_stmts) = text_awake s
     texts_awake (more_stmts s (more_stmts r rest)) = ap (woken_in (λ R. Then R (Go_on (more_stmts r rest)))) (text_awake s)
 
-  quiet_awake : (R : Text) → Quiet R → woken k uses w c R ≡ Wakes R 0
+  quiet_awake : (R : RunningText) → Quiet R → woken k uses w c R ≡ Wakes R 0
   quiet_awake Done q = refl
   quiet_awake (Run s) q = refl
   quiet_awake (Then R (Go_on list)) q = ap (woken_in (λ S. Then S (Go_on list))) (quiet_awake R q.0)
@@ -85,7 +85,7 @@ module _ (k : PlainKernel) (uses : List ℕ) (w : List ℤ) (c : List VarCopy) w
   quiet_awake (Watch weak e R) q = absurd q
   quiet_awake (Last R) q = absurd q
 
-  end_awake : (S : Text) → text_ends S ≡ true → woken k uses w c S ≡ Wakes S 0
+  end_awake : (S : RunningText) → text_ends S ≡ true → woken k uses w c S ≡ Wakes S 0
   end_awake Done h = refl
   end_awake (Run s) h = refl
   end_awake (Then R a) h = cc
@@ -97,7 +97,7 @@ module _ (k : PlainKernel) (uses : List ℕ) (w : List ℤ) (c : List VarCopy) w
   end_awake (Last R) h = cc
 
   -- what is before a list wakes, and the list waits
-  list_wakes : (S : Text) (xs : Stmts) → (y : Woken) → woken k uses w c S ≡ y →
+  list_wakes : (S : RunningText) (xs : Stmts) → (y : Woken) → woken k uses w c S ≡ y →
       woken k uses w c (then_list S xs) ≡ woken_in (λ T. then_list T xs) y
   list_wakes S no_stmts (Wakes R u) h = h
   list_wakes S no_stmts (Stays place trap u) h = h
@@ -109,7 +109,7 @@ status_like (Wakes R u) (Stays place trap v) l = absurd l
 status_like (Stays place trap u) (Wakes S v) l = absurd l
 status_like (Stays place trap u) (Stays place' trap' v) l = ap (λ x. Trapped x trap') l.0 ∙ ap (λ x. Trapped place x) l.1
 
-text_if_like : (R S : Text) → Like R S → (x y : Woken) → WokenLike x y → Like (text_if R x) (text_if S y)
+text_if_like : (R S : RunningText) → Like R S → (x y : Woken) → WokenLike x y → Like (text_if R x) (text_if S y)
 text_if_like R S h (Wakes R' u) (Wakes S' v) l = l.0
 text_if_like R S h (Wakes R' u) (Stays place trap v) l = absurd l
 text_if_like R S h (Stays place trap u) (Wakes S' v) l = absurd l
@@ -122,32 +122,32 @@ units_like (Stays place trap u) (Wakes S v) l = absurd l
 units_like (Stays place trap u) (Stays place' trap' v) l = l.2
 
 -- what a thread becomes by waking
-pub record AwakeLike (R S : Text) (x y : Woken) : Type 0 where
+pub record AwakeLike (R S : RunningText) (x y : Woken) : Type 0 where
   pub text : Like (text_if R x) (text_if S y)
   pub status : status_of y ≡ status_of x
   pub units : waking_units y ≤ waking_units x
 
-pub awake_like : (R S : Text) → Like R S → (x y : Woken) → WokenLike x y → AwakeLike R S x y
+pub awake_like : (R S : RunningText) → Like R S → (x y : Woken) → WokenLike x y → AwakeLike R S x y
 awake_like R S h x y l = record { text = text_if_like R S h x y l; status = status_like x y l; units = units_like x y l }
 
 module _ (k : PlainKernel) where
-  abbrev woken' : List ℕ → List ℤ → List VarCopy → Text → Woken
+  abbrev woken' : List ℕ → List ℤ → List VarCopy → RunningText → Woken
   woken' uses w c S = woken (folded_kernel k) uses w c S
 
-  abbrev ChildrenLike : Stepped → Stepped → Type 0
+  abbrev ChildrenLike : SteppedChildren → SteppedChildren → Type 0
   ChildrenLike s s' = LikeThreads s.children s'.children × (s'.units ≤ s.units)
 
-  list_like : (uses : List ℕ) (w : List ℤ) (c : List VarCopy) (R S : Text) (list : Stmts) → WokenLike (woken k uses w c R) (woken' uses w c S) →
+  list_like : (uses : List ℕ) (w : List ℤ) (c : List VarCopy) (R S : RunningText) (list : Stmts) → WokenLike (woken k uses w c R) (woken' uses w c S) →
       WokenLike (woken k uses w c (Then R (Go_on list))) (woken' uses w c (then_list S (fold_stmts list)))
   list_like uses w c R S list l =
       subst (λ y. WokenLike (woken k uses w c (Then R (Go_on list))) y) (sym (list_wakes (folded_kernel k) uses w c S (fold_stmts list) (woken' uses w c S) refl))
       (inside (λ T. Then T (Go_on list)) (λ T. then_list T (fold_stmts list)) (λ A B h. going B h refl) (woken k uses w c R) (woken' uses w c S) l)
 
-  gone_child : (t : ℕ) (R : Text) (w : List ℤ) (c : List VarCopy) (S : Text) → Like R S → (s s' : Stepped) → ChildrenLike s s' →
+  gone_child : (t : ℕ) (R : RunningText) (w : List ℤ) (c : List VarCopy) (S : RunningText) → Like R S → (s s' : SteppedChildren) → ChildrenLike s s' →
       ChildrenLike (record { children = child t R w c Gone s.children; units = s.units }) (record { children = child t S w c Gone s'.children; units = s'.units })
   gone_child t R w c S h s s' l = ((S, s'.children, h, l.0, refl), l.1)
 
-  woken_child : (t : ℕ) (R : Text) (w : List ℤ) (c : List VarCopy) (S : Text) (x y : Woken) → AwakeLike R S x y → (s s' : Stepped) → ChildrenLike s s' →
+  woken_child : (t : ℕ) (R : RunningText) (w : List ℤ) (c : List VarCopy) (S : RunningText) (x y : Woken) → AwakeLike R S x y → (s s' : SteppedChildren) → ChildrenLike s s' →
       ChildrenLike (record { children = child t (text_if R x) w c (status_of x) s.children; units = waking_units x + s.units })
       (record { children = child t (text_if S y) w c (status_of y) s'.children; units = waking_units y + s'.units })
   woken_child t R w c S x y a s s' l =
@@ -156,7 +156,7 @@ module _ (k : PlainKernel) where
       ((text_if S y, s'.children, a.text, l.0, ap (λ st. child t (text_if S y) w c st s'.children) a.status), omega arith)
 
   mutual
-    pub woken_like : (uses : List ℕ) (w : List ℤ) (c : List VarCopy) (R S : Text) → Like R S → WokenLike (woken k uses w c R) (woken' uses w c S)
+    pub woken_like : (uses : List ℕ) (w : List ℤ) (c : List VarCopy) (R S : RunningText) → Like R S → WokenLike (woken k uses w c R) (woken' uses w c S)
     woken_like uses w c Done S l = subst (λ y. WokenLike (Wakes Done 0) y) (sym (end_awake (folded_kernel k) uses w c S l)) (l, omega arith)
     woken_like uses w c (Run s) S (inl q) = subst (λ y. WokenLike (Wakes (Run s) 0) y) (sym (end_awake (folded_kernel k) uses w c S q.1)) (inl q, omega arith)
     woken_like uses w c (Run s) S (inr e) =
@@ -183,7 +183,7 @@ module _ (k : PlainKernel) where
         subst (λ T. WokenLike (woken k uses w c (Held cs)) (woken' uses w c T)) (sym l.2)
         (held_like (woken_children k uses c cs) (woken_children (folded_kernel k) uses c l.0) (children_like uses c cs l.0 l.1))
       where
-        held_like : (s s' : Stepped) → ChildrenLike s s' → WokenLike (Wakes (Fork s.children) s.units) (Wakes (Fork s'.children) s'.units)
+        held_like : (s s' : SteppedChildren) → ChildrenLike s s' → WokenLike (Wakes (Fork s.children) s.units) (Wakes (Fork s'.children) s'.units)
         held_like s s' h = ((s'.children, h.0, refl), h.1)
     woken_like uses w c (Watch weak e R) S l =
         subst (λ T. WokenLike (woken k uses w c (Watch weak e R)) (woken' uses w c T)) (sym l.2)

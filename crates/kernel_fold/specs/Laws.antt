@@ -4,7 +4,7 @@ use Rattle.forec_kernel.specs.declared.shape.Outcome.TheVariants as outcome
 use Rattle.forec_kernel.specs.Terms.{Expr}
 use Rattle.forec_kernel.specs.Shapes.{PlainKernel}
 use Rattle.forec_kernel.specs.Values.{Value, Gives, Raises, Setting, Sight, val, call}
-use Rattle.forec_kernel.specs.Ticks.{State, Fresh, Tick, tick, begin, finished, is_stopped, goes_on, run_of}
+use Rattle.forec_kernel.specs.Ticks.{TickState, Fresh, Tick, tick, begin, finished, is_stopped, goes_on, run_of}
 use Rattle.forec_kernel.specs.WellFormed.{WellFormed}
 use Rattle.bound_laws.specs.Paced.{Paced}
 use Rattle.kernel_fold.specs.Folding.{fold_expr, folded_kernel}
@@ -40,16 +40,16 @@ abbrev pub FoldingKeepsRuns : Type 0
 FoldingKeepsRuns = (k : PlainKernel) → RunsAsBefore k (folded_kernel k)
 
 -- the units of a tick, up to the step that stops it
-abbrev pub tick_units : PlainKernel → ℕ → State → List ℤ → ℕ
+abbrev pub tick_units : PlainKernel → ℕ → TickState → List ℤ → ℕ
 tick_units k budget old row = (finished k (is_stopped budget) (suc budget) (begin k old row)).units
 
-pub record TicksAlike (k k' : PlainKernel) (budget : ℕ) (old old' : State) (row : List ℤ) : Type 0 where
+pub record TicksAlike (k k' : PlainKernel) (budget : ℕ) (old old' : TickState) (row : List ℤ) : Type 0 where
   pub outcome : (tick k' budget old' row).outcome ≡ (tick k budget old row).outcome
   pub outputs : (tick k' budget old' row).outputs ≡ (tick k budget old row).outputs
   pub units : tick_units k' budget old' row ≤ tick_units k budget old row
 
 -- tick by tick, each kernel from its own state, up to the first tick that is over in the first kernel
-abbrev pub RunsAlike : PlainKernel → PlainKernel → ℕ → State → State → List (List ℤ) → Type 0
+abbrev pub RunsAlike : PlainKernel → PlainKernel → ℕ → TickState → TickState → List (List ℤ) → Type 0
 RunsAlike k k' budget old old' [] = Unit {0}
 RunsAlike k k' budget old old' (row ∷ rows) =
     (tick k budget old row).outcome ≢ outcome.Over →

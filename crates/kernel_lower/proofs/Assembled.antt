@@ -17,9 +17,9 @@ use Rattle.body_lower.specs.declared.state.State.{State}
 use Rattle.body_lower.specs.declared.state.Thread.{Thread}
 use Rattle.text_kernel.specs.Bindings.{first_value}
 use Rattle.text_kernel.specs.Lowering.{NextNumbers, as_one, inlined_body}
-use Rattle.text_kernel.specs.Kernels.{padded, function_body}
+use Rattle.text_kernel.specs.Kernels.{padded, lowered_function_body}
 use Rattle.body_lower.specs.Landings.{called_within}
-use Rattle.body_lower.specs.Views.{Bare, bare, of_thread, next_of, threads_in, threads_of, Does}
+use Rattle.body_lower.specs.Views.{Bare, bare, of_thread, next_of, pending_threads, threads_of, Does}
 use Rattle.kernel_lower.specs.declared.expand.Bodies.{Bodies}
 use Rattle.kernel_lower.specs.Drafts.{bare_shapes, named_at, part_at, marked_from, Expanded}
 use Rattle.text_kernel.specs.Items.{globals_of}
@@ -34,7 +34,7 @@ from_params n = record { slot = n; thread = 1; par = 0 }
 
 -- where nothing is put in place
 alone : (text : Text) (names : List (List ℕ)) (f : PlainFunction) (n : NextNumbers) → n ≡ (let m : NextNumbers = record { slot = length f.params; thread = 1; par = 0 } in m) →
-    inlined_body text (called_within text 0) (Some f) 0 0 n ≡ as_one (function_body text names f)
+    inlined_body text (called_within text 0) (Some f) 0 0 n ≡ as_one (lowered_function_body text names f)
 unfolding within
 alone text names f n e = ap (inlined_body text (called_within text 0) (Some f) 0 0) e
 
@@ -44,7 +44,7 @@ begins s p e t q =
     ap (λ x. at x s.thread s.par) e ∙ (ap (λ x. at p x s.par) t ∙ ap (at p 1) q)
 
 pub translated : (text : Text) (names : List (List ℕ)) (f : PlainFunction) (k : Stmt) (old new : State) → old.slot ≡ length f.params → old.thread ≡ 1 → old.par ≡ 0 →
-    Does text (inlined_body text (called_within text 0) (Some f) 0 0 (next_of old)) k old new → Does text (as_one (function_body text names f)) k old new
+    Does text (inlined_body text (called_within text 0) (Some f) 0 0 (next_of old)) k old new → Does text (as_one (lowered_function_body text names f)) k old new
 translated text names f k old new s t p d = subst (λ l. Does text l k old new) (alone text names f (next_of old) (begins old (length f.params) s t p)) d
 
 -- thread 0 and those below it
@@ -57,7 +57,7 @@ expanded text deep first b old new e s t p none d w threads =
     record {
       main = root.is;
       words = w ∙ ap (λ (x : NextNumbers). x.slot) root.next;
-      threads = threads ∙ (root.threads ∙ ap (λ l. threads_in text l ++ map bare (called_within text (length text) first 0 0 n).made) none);
+      threads = threads ∙ (root.threads ∙ ap (λ l. pending_threads text l ++ map bare (called_within text (length text) first 0 0 n).made) none);
     }
 
 -- ---- threads

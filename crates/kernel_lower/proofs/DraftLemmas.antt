@@ -10,7 +10,7 @@ use Rattle.body_lower.specs.declared.state.Thread.{Thread}
 use Rattle.text_kernel.specs.Lowering.{Made, vars_of, vars_made}
 use Rattle.text_kernel.specs.Kernels.{filter_in, thread_shape, variable_count}
 use Rattle.body_lower.specs.Views.{Bare, bare, of_thread}
-use Rattle.kernel_lower.specs.Drafts.{vars_bare, named_at, name_of, bare_shape, bare_shapes, marked_from}
+use Rattle.kernel_lower.specs.Drafts.{vars_bare, named_at, optional_name_bytes, bare_shape, bare_shapes, marked_from}
 use Rattle.kernel_lower.specs.Marks.{is_marked, MarksOf}
 use Rattle.text_kernel.proofs.Forks.{at}
 use Rattle.text_kernel.proofs.Segments.{Segments}
@@ -64,7 +64,7 @@ module _ (text : Text) (names : List (List ℕ)) (whole : List Made) (segments :
       ∙ (ap (λ k. vars_made (take k (drop i whole))) n
       ∙ (ap (λ (x : Made). vars_made (take (x.behind - (1 + i)) (drop i whole))) (sym is) ∙ (sym s.named ∙ ap (λ (x : Made). x.named) is)))))
 
-  names_are : (o : Option ℕ) → name_of names o ≡ Rattle.text_kernel.specs.Kernels.name_bytes text names o
+  names_are : (o : Option ℕ) → optional_name_bytes names o ≡ Rattle.text_kernel.specs.Kernels.name_bytes text names o
   names_are None = refl
   names_are (Some id) = refl
 

@@ -15,7 +15,7 @@ use Rattle.forec_kernel.specs.Combining.{contains, variable_of}
 use Rattle.forec_kernel.specs.Values.{function_words}
 use Rattle.forec_kernel.specs.Texts.{uses_in, uses_of, words_in, words_of, body_of}
 use Rattle.forec_kernel.specs.WellFormed.{greatest, count_up, stmt_calls, stmt_depth, function_body, chain, users, combine_calls, par_calls, pars_of, thread_calls, Ranked}
-use Rattle.forec_check.specs.Instances.{threads_of}
+use Rattle.forec_check.specs.Instances.{thread_count}
 use Rattle.text_kernel.specs.declared.limits.Quantity.{Quantity}
 use Rattle.text_kernel.specs.declared.limits.Quantity.TheVariants.{Threads, Words, Globals, Tables, Terms, Depth}
 use Rattle.kernel_lower.specs.declared.lower_fault.LowerFault.{LowerFault}
@@ -27,11 +27,11 @@ use Rattle.text_kernel.specs.Kernels.{kernel_of, root, main_id, variable_count, 
 use Rattle.text_kernel.specs.Kernels as kernels
 use Rattle.body_lower.specs.Views.{Bare, bare}
 use Rattle.kernel_lower.specs.Drafts.{root_of, main_shape, bare_shapes, function_text, function_shape}
-use Rattle.text_kernel.specs.Items.{array_items, array_in, array_length, array_table, listed}
+use Rattle.text_kernel.specs.Items.{array_items, array_in, array_length, array_table, option_list}
 use Rattle.text_kernel.specs.Limits.{amount, limit_of, thread_words, thread_depth, function_depth, WithinLimits}
 use Rattle.kernel_lower.specs.Measures.{plain_draft, IsDraft, CallsLow}
 use Rattle.kernel_lower.specs.declared.judge.Amounts.{Amounts}
-use Rattle.kernel_lower.specs.Refusals.{amount_in, First, Causes, Passes}
+use Rattle.kernel_lower.specs.Refusals.{amount_in, First, HasLowerCause, PassesLimit}
 use Rattle.text_sizes.proofs.Sized.{place_threads}
 use Rattle.text_kernel.proofs.Placed.{root_grown}
 use Rattle.text_kernel.proofs.Segments.{segments}
@@ -85,12 +85,12 @@ module _ (text : Text) (names : List (List ℕ)) where
   -- ---- constant arrays
 
   either_table : (b : Bool) (o : Option Number) (g : PlainGlobal) → g.length ≡ o →
-      cond b (elim o [ None ↦ [] | Some n ↦ padded (number_of n) g.values ∷ [] ]) [] ≡ map array_table (listed (cond (b && is_some o) (Some g) None))
+      cond b (elim o [ None ↦ [] | Some n ↦ padded (number_of n) g.values ∷ [] ]) [] ≡ map array_table (option_list (cond (b && is_some o) (Some g) None))
   either_table false o g d = refl
   either_table true None g d = refl
   either_table true (Some n) g d = ap (λ (o : Option Number). padded (elim o [ None ↦ 0 | Some n ↦ number_of n ]) g.values ∷ []) (sym d)
 
-  one_table : (g : PlainGlobal) → table_of text names g ≡ map array_table (listed (array_in (IsGlobal g)))
+  one_table : (g : PlainGlobal) → table_of text names g ≡ map array_table (option_list (array_in (IsGlobal g)))
   one_table g = either_table (is_constant g.kind) g.length g refl
 
   pub tables_are : (t : Text) → tables_of text names t ≡ map array_table (array_items t)
@@ -98,8 +98,8 @@ module _ (text : Text) (names : List (List ℕ)) where
   tables_are (IsFunction f ∷ rest) = tables_are rest
   tables_are (IsGlobal g ∷ rest) =
       ap (λ l. l ++ tables_of text names rest) (one_table g)
-      ∙ (ap (λ l. map array_table (listed (array_in (IsGlobal g))) ++ l) (tables_are rest)
-      ∙ sym (Rattle.std.proofs.lemmas.List.map-append array_table (listed (array_in (IsGlobal g))) (array_items rest)))
+      ∙ (ap (λ l. map array_table (option_list (array_in (IsGlobal g))) ++ l) (tables_are rest)
+      ∙ sym (Rattle.std.proofs.lemmas.List.map-append array_table (option_list (array_in (IsGlobal g))) (array_items rest)))
 
   pub draft_tables : (tables : List (List ℤ)) (arrays : List PlainGlobal) → tables ≡ map array_table arrays → arrays ≡ array_items text → tables ≡ (kernel_of text names).shape.tables
   unfolding kernel_of
@@ -257,7 +257,7 @@ unfolding amount kernel_of
 tables_amount text names n arrays a e =
     e ∙ ap (λ l. min (sum l) (2 ^ 64 - 1)) (sym (lengths_are arrays) ∙ (ap (λ l. map (λ (table : List ℤ). length table) (map array_table l)) a ∙ ap (map (λ (table : List ℤ). length table)) (sym (tables_are text names text))))
 
-pub threads_amount : (text : Text) (names : List (List ℕ)) (n : ℕ) → n ≡ threads_of text names → n ≡ min (amount Threads (kernel_of text names)) (2 ^ 64 - 1)
+pub threads_amount : (text : Text) (names : List (List ℕ)) (n : ℕ) → n ≡ thread_count text names → n ≡ min (amount Threads (kernel_of text names)) (2 ^ 64 - 1)
 unfolding amount kernel_of
 threads_amount text names n e =
     e ∙ ap (λ m. min (suc m) (2 ^ 64 - 1)) (sym (place_threads text (length text) (main_id text names) 0 0 (record { slot = 0; thread = 1; par = 0 })) ∙ sym (length-map (root text names).made (λ m. m.body)))
@@ -290,7 +290,7 @@ few Tables a n e h = omega (arith, e, h)
 few Terms a n e h = omega (arith, e, h)
 few Depth a n e h = omega (arith, e, h)
 
-pub first_causes : (text : Text) (names : List (List ℕ)) (amounts : Quantity → ℕ) (e : LowerFault) → ((q : Quantity) → amounts q ≡ min (amount q (kernel_of text names)) (2 ^ 64 - 1)) → First amounts e → Causes e text names
+pub first_causes : (text : Text) (names : List (List ℕ)) (amounts : Quantity → ℕ) (e : LowerFault) → ((q : Quantity) → amounts q ≡ min (amount q (kernel_of text names)) (2 ^ 64 - 1)) → First amounts e → HasLowerCause e text names
 first_causes text names amounts (fault.Limit what count) h f =
     let p = f.passes in
     let a = h what in
@@ -298,7 +298,7 @@ first_causes text names amounts (fault.Limit what count) h f =
 first_causes text names amounts fault.OutOfMemory h f = tt
 
 -- one quantity alone, the first
-pub threads_cause : (text : Text) (names : List (List ℕ)) (threads : ℕ) (e : LowerFault) → threads ≡ min (amount Threads (kernel_of text names)) (2 ^ 64 - 1) → Passes Threads threads e → Causes e text names
+pub threads_cause : (text : Text) (names : List (List ℕ)) (threads : ℕ) (e : LowerFault) → threads ≡ min (amount Threads (kernel_of text names)) (2 ^ 64 - 1) → PassesLimit Threads threads e → HasLowerCause e text names
 threads_cause text names threads e h p =
     let l = p.1 in
-    subst (λ x. Causes x text names) (sym p.0) (record { passes = omega (arith, l, h); first = λ q m. elim m [ ]; is = refl })
+    subst (λ x. HasLowerCause x text names) (sym p.0) (record { passes = omega (arith, l, h); first = λ q m. elim m [ ]; is = refl })

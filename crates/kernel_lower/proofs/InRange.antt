@@ -6,7 +6,7 @@ use Rattle.forec_kernel.specs.Terms.{Expr, Num, Local, LocalAt, Var, SharedAt, T
 use Rattle.forec_kernel.specs.Shapes.{PlainKernel}
 use Rattle.forec_kernel.specs.Combining.{contains, variable_of}
 use Rattle.forec_kernel.specs.Texts.{body_of, uses_of, words_of}
-use Rattle.forec_kernel.specs.WellFormed.{Scope, FineExpr, FineExprs, FineBranches, FineStmt, FineStmts, calls_of, calls_in, branch_calls, stmt_calls, stmts_calls, pars_of, users, combine_calls, par_calls, thread_calls, function_body, count_up}
+use Rattle.forec_kernel.specs.WellFormed.{TermScope, FineExpr, FineExprs, FineBranches, FineStmt, FineStmts, calls_of, calls_in, branch_calls, stmt_calls, stmts_calls, pars_of, users, combine_calls, par_calls, thread_calls, function_body, count_up}
 use Rattle.loop_check.proofs.IndexLemmas.{split}
 use Rattle.text_kernel.specs.Kernels.{kernel_of, root, variable_count}
 use Rattle.kernel_lower.specs.Measures.{CallsLow}
@@ -18,7 +18,7 @@ use Rattle.text_kernel.proofs.Functions.{int_function, int_at, function_low, bod
 use Rattle.text_kernel.proofs.Main.{main_fine}
 use Rattle.text_kernel.proofs.Whole.{main_runs, made_fine}
 
-module _ (s : Scope) (g : ℕ) where
+module _ (s : TermScope) (g : ℕ) where
   abbrev Low : Type 0
   Low = g < length s.kernel.functions
 
@@ -93,7 +93,7 @@ module _ (k : PlainKernel) (g : ℕ) (combines : (v : ℕ) → (variable_of k v)
   pars_low uses [] i = absurd (let q : false ≡ true = i in cc)
   pars_low uses (threads ∷ rest) i = ⊎_elim (combine_low threads uses) (pars_low uses rest) (in_two g (combine_calls k threads uses) (par_calls k uses rest) i)
 
-  pub thread_low : (f : Bool) (s : Scope) (t : ℕ) → length s.kernel.functions ≡ length k.functions → FineStmt f s (body_of k t) → contains g (thread_calls k t) ≡ true → g < length k.functions
+  pub thread_low : (f : Bool) (s : TermScope) (t : ℕ) → length s.kernel.functions ≡ length k.functions → FineStmt f s (body_of k t) → contains g (thread_calls k t) ≡ true → g < length k.functions
   thread_low f s t same fine i =
       ⊎_elim (λ j. (let l = stmt_low s g f (body_of k t) fine j in omega (arith, l, same))) (pars_low (uses_of k t) (pars_of (body_of k t))) (in_two g (stmt_calls (body_of k t)) (par_calls k (uses_of k t) (pars_of (body_of k t))) i)
 
@@ -122,7 +122,7 @@ module _ (text : Text) (names : List (List ℕ)) (clean : Clean text names) wher
       let low = function_low text names f l in
       let at = int_at text names text f low in
       let own = int_function text names f in
-      stmt_low (record { kernel = k; words = (Rattle.text_kernel.specs.Kernels.function_body text names own).next.slot; uses = [] }) g true (Rattle.text_kernel.specs.Lowering.sequence (Rattle.text_kernel.specs.Kernels.function_body text names own).list)
+      stmt_low (record { kernel = k; words = (Rattle.text_kernel.specs.Kernels.lowered_function_body text names own).next.slot; uses = [] }) g true (Rattle.text_kernel.specs.Lowering.sequence (Rattle.text_kernel.specs.Kernels.lowered_function_body text names own).list)
       (body_fine text names clean own at.member at.gives) (sym (ap (λ x. contains g (stmt_calls x)) (body_of_function text names f low)) ∙ i)
 
   threads_low : (t g : ℕ) → t < length k.threads → contains g (thread_calls k t) ≡ true → g < length k.functions

@@ -22,7 +22,7 @@ use Rattle.loop_check.proofs.IndexLemmas.{split}
 use Rattle.kernel_lower.specs.Reach.{value_at, chain_step, chain_value, list_items, has, combine_at, users_by, combine_by, pars_by}
 use Rattle.kernel_lower.specs.Drafts.{marked_from}
 use Rattle.kernel_lower.specs.Marks.{is_marked, row_uses, shape_uses}
-use Rattle.kernel_lower.specs.Measures.{plain_draft, words_of_shape, depth_of_body, Fits, CallsLow, HasChains}
+use Rattle.kernel_lower.specs.Measures.{plain_draft, words_of_shape, depth_of_body, IsConsistent, CallsLow, HasChains}
 use Rattle.kernel_lower.specs.declared.measure.Draft.{Draft}
 use Rattle.kernel_lower.specs.declared.measure.Chains.{Chains}
 use Rattle.text_kernel.specs.Limits.{thread_words, thread_depth, function_depth, amount}
@@ -213,7 +213,7 @@ uses_are [] t s l e = absurd (omega arith)
 uses_are (x ∷ xs) zero s l e = ap (λ (y : ThreadShape). y.uses.items) (sym e)
 uses_are (x ∷ xs) (suc t) s l e = uses_are xs t s (omega arith) e
 
-module _ (d : Draft) (fits : Fits d) where
+module _ (d : Draft) (fits : IsConsistent d) where
   abbrev k : PlainKernel
   k = plain_draft d
 

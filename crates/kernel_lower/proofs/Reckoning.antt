@@ -24,13 +24,13 @@ use Rattle.text_kernel.proofs.VariableItems.{widths_are}
 use Rattle.forec_tree.specs.Variables.{width, variables}
 use Rattle.forec_tree.proofs.VariableCounts.{variables_counted}
 use Rattle.text_sizes.specs.Spans.{span_value}
-use Rattle.text_kernel.specs.Limits.{amount, limit_of, earlier, Fits, thread_words, thread_depth, widest}
+use Rattle.text_kernel.specs.Limits.{amount, limit_of, earlier, IsWithinLimit, thread_words, thread_depth, widest}
 use Rattle.kernel_lower.specs.Measures.{CallsLow, HasWords}
 use Rattle.kernel_lower.specs.Reach.{value_at}
 use Rattle.kernel_lower.proofs.Measuring.{greatest_capped}
 use Rattle.text_chains.specs.Peaks.{called_words, most_words}
 use Rattle.kernel_lower.specs.declared.judge.Amounts.{Amounts}
-use Rattle.kernel_lower.specs.Refusals.{amount_in, Passes, First, Causes}
+use Rattle.kernel_lower.specs.Refusals.{amount_in, PassesLimit, First, HasLowerCause}
 use Rattle.text_sizes.proofs.Widening.{span_kept}
 use Rattle.text_sizes.proofs.Heights.{all_told, depth_in}
 use Rattle.text_sizes.proofs.Heights as heights
@@ -215,7 +215,7 @@ pub record Tells (k : PlainKernel) (amounts : Quantity → ℕ) : Type 0 where
   pub passes : (q : Quantity) → limit_of q < amounts q → limit_of q < amount q k
   pub fits : (q : Quantity) → (q ≡ Depth → ⊥) → amounts q ≤ limit_of q → amount q k ≤ limit_of q
 
-pub told_causes : (text : Text) (names : List (List ℕ)) (amounts : Quantity → ℕ) (e : LowerFault) → Tells (kernel_of text names) amounts → First amounts e → Causes e text names
+pub told_causes : (text : Text) (names : List (List ℕ)) (amounts : Quantity → ℕ) (e : LowerFault) → Tells (kernel_of text names) amounts → First amounts e → HasLowerCause e text names
 told_causes text names amounts (fault.Limit what count) h f =
     record {
       passes = h.passes what f.passes;
@@ -232,14 +232,14 @@ at_most l a n s e h = omega (arith, s, e, h)
 
 -- the widest thread alone passes the limit of words, and no earlier one is passed
 pub words_cause : (text : Text) (names : List (List ℕ)) (threads words : ℕ) (e : LowerFault) → length (kernel_of text names).threads ≡ length (kernel_of text names).shape.threads →
-    threads ≡ min (amount Threads (kernel_of text names)) (2 ^ 64 - 1) → threads ≤ limit_of Threads → words ≡ min (widest (kernel_of text names).shape.threads) (2 ^ 64 - 1) → Passes Words words e → Causes e text names
+    threads ≡ min (amount Threads (kernel_of text names)) (2 ^ 64 - 1) → threads ≤ limit_of Threads → words ≡ min (widest (kernel_of text names).shape.threads) (2 ^ 64 - 1) → PassesLimit Words words e → HasLowerCause e text names
 words_cause text names threads words e many t f w p =
     let k = kernel_of text names in
     let l = p.1 in
     let least = words_least k many in
-    subst (λ x. Causes x text names) (sym p.0) (record { passes = omega (arith, l, w, least); first = only; is = refl })
+    subst (λ x. HasLowerCause x text names) (sym p.0) (record { passes = omega (arith, l, w, least); first = only; is = refl })
   where
-    only : (q : Quantity) → Member q (earlier Words) → Fits (kernel_of text names) q
+    only : (q : Quantity) → Member q (earlier Words) → IsWithinLimit (kernel_of text names) q
     only Threads m = at_most (limit_of Threads) threads (amount Threads (kernel_of text names)) (omega arith) t f
     only Words (later m) = elim m [ ]
     only Globals (later m) = elim m [ ]

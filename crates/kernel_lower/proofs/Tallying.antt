@@ -15,7 +15,7 @@ use Rattle.kernel_lower.specs.declared.lower_fault.LowerFault.{LowerFault}
 use Rattle.kernel_lower.specs.Drafts.{marked_from}
 use Rattle.text_kernel.specs.Limits.{limit_of, earlier}
 use Rattle.kernel_lower.specs.Marks.{is_marked, Marks}
-use Rattle.kernel_lower.specs.Refusals.{Passes, First}
+use Rattle.kernel_lower.specs.Refusals.{PassesLimit, First}
 
 -- ---- kinds
 
@@ -93,7 +93,7 @@ each_member P [] x h m = elim m [ ]
 each_member P (y ∷ xs) x h here = h.0
 each_member P (y ∷ xs) x h (later m) = each_member P xs x h.1 m
 
-pub first_at : (amounts : Quantity → ℕ) (what : Quantity) (e : LowerFault) → Passes what (amounts what) e → Each (λ q. amounts q ≤ limit_of q) (earlier what) → First amounts e
+pub first_at : (amounts : Quantity → ℕ) (what : Quantity) (e : LowerFault) → PassesLimit what (amounts what) e → Each (λ q. amounts q ≤ limit_of q) (earlier what) → First amounts e
 first_at amounts what e p h =
     subst (First amounts) (sym p.0) (record { passes = p.1; first = λ q m. each_member (λ x. amounts x ≤ limit_of x) (earlier what) q h m; is = refl })
 

@@ -1,7 +1,7 @@
 -- Parts of the kernel of a program.
 use Rattle.std.specs.Prelude.{◌≡◌, ◌-◌, ℕ, suc, Bool, cond, Option, Some, None, List, [], ◌∷◌, ◌++◌, map, length, take, drop, slice_index_or}
 use Rattle.forec_tree.specs.Terms.{Text, PlainFunction}
-use Rattle.forec_tree.specs.Rules.{bytes_of}
+use Rattle.forec_tree.specs.Rules.{spelling_of_name}
 use Rattle.forec_kernel.specs.Terms.{Stmt, Nop}
 use Rattle.forec_kernel.specs.Plain.{stmt}
 use Rattle.forec_kernel.specs.Shapes.{PlainThread}
@@ -11,14 +11,14 @@ use Rattle.forec_kernel.specs.declared.shape.FunctionShape.{FunctionShape}
 use Rattle.kernel_lower.specs.declared.expand.Bodies.{Bodies}
 use Rattle.body_lower.specs.declared.state.Thread.{Thread}
 use Rattle.text_kernel.specs.Lowering.{Lowered, sequence, vars_of, inlined}
-use Rattle.text_kernel.specs.Kernels.{function_body, filter_in}
+use Rattle.text_kernel.specs.Kernels.{lowered_function_body, filter_in}
 use Rattle.body_lower.specs.Views.{Bare, bare, of_thread}
 
 abbrev pub function_shape : Text → List (List ℕ) → PlainFunction → FunctionShape
-function_shape text names f = record { params = length f.params; words = (function_body text names f).next.slot }
+function_shape text names f = record { params = length f.params; words = (lowered_function_body text names f).next.slot }
 
 abbrev pub function_text : Text → List (List ℕ) → PlainFunction → Stmt
-function_text text names f = sequence (function_body text names f).list
+function_text text names f = sequence (lowered_function_body text names f).list
 
 -- `main` and what stands below it, from a function by its name
 abbrev pub root_of : Text → ℕ → Lowered
@@ -44,16 +44,16 @@ named_at all i b = vars_bare (part_at all i b.behind)
 
 -- ---- what the kernel says of the threads
 
-abbrev pub name_of : List (List ℕ) → Option ℕ → Option (List ℕ)
-name_of names None = None
-name_of names (Some id) = Some (bytes_of names id)
+abbrev pub optional_name_bytes : List (List ℕ) → Option ℕ → Option (List ℕ)
+optional_name_bytes names None = None
+optional_name_bytes names (Some id) = Some (spelling_of_name names id)
 
 abbrev pub bare_shape : List (List ℕ) → ℕ → List Bare → ℕ → Bare → PlainThread
 bare_shape names count all i b =
     record {
       parent = Some b.parent;
       par = Some b.par;
-      name = name_of names b.name;
+      name = optional_name_bytes names b.name;
       params = b.params;
       words = b.words;
       uses = filter_in (named_at all i b) (count_up 0 count);
@@ -67,7 +67,7 @@ bare_shapes names count all i (b ∷ rest) = bare_shape names count all i b ∷ 
 -- thread 0 has a copy of each variable
 abbrev pub main_shape : List (List ℕ) → ℕ → ℕ → ℕ → PlainThread
 main_shape names count first words =
-    record { parent = None; par = None; name = Some (bytes_of names first); params = 0; words = words; uses = count_up 0 count }
+    record { parent = None; par = None; name = Some (spelling_of_name names first); params = 0; words = words; uses = count_up 0 count }
 
 -- the numbers of the marks that are set, from a number on
 abbrev pub marked_from : ℕ → List Bool → List ℕ

@@ -6,7 +6,7 @@ use Rattle.forec_tree.specs.Faults.{is_in}
 use Rattle.forec_kernel.specs.Shapes.{PlainThread}
 use Rattle.forec_kernel.specs.declared.shape.ThreadShape.{ThreadShape}
 use Rattle.body_lower.specs.Views.{Bare}
-use Rattle.kernel_lower.specs.Drafts.{name_of, marked_from}
+use Rattle.kernel_lower.specs.Drafts.{optional_name_bytes, marked_from}
 
 abbrev pub is_marked : List Bool → ℕ → Bool
 is_marked marks v = slice_index_or marks v false
@@ -31,4 +31,4 @@ shape_uses s = s.uses.items
 -- what the kernel says of a thread that has copies of some variables
 abbrev pub with_uses : List (List ℕ) → Bare → List ℕ → PlainThread
 with_uses names b uses =
-    record { parent = Some b.parent; par = Some b.par; name = name_of names b.name; params = b.params; words = b.words; uses = uses }
+    record { parent = Some b.parent; par = Some b.par; name = optional_name_bytes names b.name; params = b.params; words = b.words; uses = uses }

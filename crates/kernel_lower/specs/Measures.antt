@@ -36,7 +36,7 @@ pub record CallsLow (k : PlainKernel) : Type 0 where
   pub threads : (t g : ℕ) → t < length k.threads → contains g (thread_calls k t) ≡ true → g < length k.functions
 
 -- the lists are of one length, and the rows are those of the threads
-pub record Fits (d : Draft) : Type 0 where
+pub record IsConsistent (d : Draft) : Type 0 where
   pub threads : length d.texts.items ≡ length d.threads.items
   pub functions : length d.functions.bodies.items ≡ length d.functions.shapes.items
   pub rows : map row_uses d.rows.items ≡ map shape_uses d.threads.items
@@ -63,4 +63,4 @@ pub record IsDraft (k : PlainKernel) (d : Draft) : Type 0 where
   pub variables : d.variables.items ≡ k.shape.variables
   pub shapes : d.functions.shapes.items ≡ k.shape.functions
   pub bodies : map stmt d.functions.bodies.items ≡ k.functions
-  pub fits : Fits d
+  pub fits : IsConsistent d

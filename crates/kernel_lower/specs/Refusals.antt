@@ -10,9 +10,9 @@ use Rattle.kernel_lower.specs.declared.judge.Amounts.{Amounts}
 use Rattle.text_kernel.specs.Limits.{limit_of, earlier, IsLimit}
 
 -- a refusal reports the first limit that is passed; out of memory is free
-abbrev pub Causes : LowerFault → Text → List (List ℕ) → Type 0
-Causes (fault.Limit what count) text names = IsLimit text names what count
-Causes fault.OutOfMemory text names = Unit {0}
+abbrev pub HasLowerCause : LowerFault → Text → List (List ℕ) → Type 0
+HasLowerCause (fault.Limit what count) text names = IsLimit text names what count
+HasLowerCause fault.OutOfMemory text names = Unit {0}
 
 -- ---- by amounts
 
@@ -25,15 +25,15 @@ amount_in a Terms = a.terms
 amount_in a Depth = a.depth
 
 -- a quantity passes its limit
-abbrev pub Passes : Quantity → ℕ → LowerFault → Type 0
-Passes q amount e = (e ≡ fault.Limit q (limit_of q)) × (limit_of q < amount)
+abbrev pub PassesLimit : Quantity → ℕ → LowerFault → Type 0
+PassesLimit q amount e = (e ≡ fault.Limit q (limit_of q)) × (limit_of q < amount)
 
 -- the first limit that is passed
-pub record IsFirst (amounts : Quantity → ℕ) (what : Quantity) (count : ℕ) : Type 0 where
+pub record IsFirstLimit (amounts : Quantity → ℕ) (what : Quantity) (count : ℕ) : Type 0 where
   pub passes : limit_of what < amounts what
   pub first : (q : Quantity) → Member q (earlier what) → amounts q ≤ limit_of q
   pub is : count ≡ limit_of what
 
 abbrev pub First : (Quantity → ℕ) → LowerFault → Type 0
-First amounts (fault.Limit what count) = IsFirst amounts what count
+First amounts (fault.Limit what count) = IsFirstLimit amounts what count
 First amounts fault.OutOfMemory = Unit {0}

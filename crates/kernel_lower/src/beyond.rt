@@ -6,13 +6,13 @@ ghost use Rattle.forec_tree.specs.Faults.{Leads};
 ghost use Rattle.forec_tree.specs.Pauses.{callees_of};
 ghost use Rattle.forec_check.specs.Faultless.{Faultless};
 ghost use Rattle.forec_kernel.specs.WellFormed.{Ranked};
-ghost use Rattle.loop_check.specs.Views.{text_of};
+ghost use Rattle.loop_check.specs.Views.{indexed_text};
 ghost use Rattle.text_kernel.specs.Kernels.{kernel_of, int_functions, main_id};
 ghost use Rattle.text_kernel.specs.Items.{functions_of};
 ghost use Rattle.text_kernel.specs.Limits as limits;
 ghost use Rattle.text_kernel.specs.declared.limits.Quantity.TheVariants as quantity;
 ghost use Rattle.kernel_lower.specs.Measures.{CallsLow, HasWords};
-ghost use Rattle.kernel_lower.specs.Refusals.{Causes};
+ghost use Rattle.kernel_lower.specs.Refusals.{HasLowerCause};
 ghost use Rattle.body_lower.specs.Views.{OneText};
 
 use crate::int_functions::lowered_functions;
@@ -50,13 +50,13 @@ pub fn foresee(
     first: u32,
     threads: u64,
 ) -> Result<u64, LowerFault>
-    requires free { (f : ℕ) → Leads (callees_of (text_of index.now)) f f → ⊥ }
-    requires first { first ≡ main_id (text_of index.now) names.now }
-    requires threads { threads ≡ min (limits.amount quantity.Threads (kernel_of (text_of index.now) names.now)) (2 ^ 64 - 1) }
+    requires free { (f : ℕ) → Leads (callees_of (indexed_text index.now)) f f → ⊥ }
+    requires first { first ≡ main_id (indexed_text index.now) names.now }
+    requires threads { threads ≡ min (limits.amount quantity.Threads (kernel_of (indexed_text index.now) names.now)) (2 ^ 64 - 1) }
     requires few { threads ≤ limits.limit_of quantity.Threads }
-    ensures words { OnOk result (limits.widest (kernel_of (text_of index.now) names.now).shape.threads ≤ limits.limit_of quantity.Words) }
-    ensures levels { IfOk result (λ n. n ≤ limits.amount quantity.Depth (kernel_of (text_of index.now) names.now)) }
-    ensures fault { IfErr result (λ e. Causes e (text_of index.now) names.now) }
+    ensures words { OnOk result (limits.widest (kernel_of (indexed_text index.now) names.now).shape.threads ≤ limits.limit_of quantity.Words) }
+    ensures levels { IfOk result (λ n. n ≤ limits.amount quantity.Depth (kernel_of (indexed_text index.now) names.now)) }
+    ensures fault { IfErr result (λ e. HasLowerCause e (indexed_text index.now) names.now) }
 {
     let table = spans(alloc, index)?;
     let main = span_of(&table, first);
@@ -73,10 +73,10 @@ fn chain_words(
     functions: &[&Function],
 ) -> Result<Vec<u64>, OutOfMemory>
     requires text { OneText source.now }
-    requires functions { functions_of functions.now ≡ int_functions (text_of source.now.globals.index) names.now (text_of source.now.globals.index) }
-    requires ranked { Ranked (kernel_of (text_of source.now.globals.index) names.now) }
-    requires low { CallsLow (kernel_of (text_of source.now.globals.index) names.now) }
-    ensures { IfOk result (λ list. HasWords (kernel_of (text_of source.now.globals.index) names.now) list.items) }
+    requires functions { functions_of functions.now ≡ int_functions (indexed_text source.now.globals.index) names.now (indexed_text source.now.globals.index) }
+    requires ranked { Ranked (kernel_of (indexed_text source.now.globals.index) names.now) }
+    requires low { CallsLow (kernel_of (indexed_text source.now.globals.index) names.now) }
+    ensures { IfOk result (λ list. HasWords (kernel_of (indexed_text source.now.globals.index) names.now) list.items) }
 {
     let functions = lowered_functions(alloc, source, names, functions)?;
     let alone = Draft {
@@ -100,19 +100,19 @@ pub fn beyond(
     known: Outlook,
 ) -> Result<(), LowerFault>
     requires text { OneText source.now }
-    requires items { map plain_item items.now ≡ text_of source.now.globals.index }
-    requires functions { functions_of functions.now ≡ int_functions (text_of source.now.globals.index) names.now (text_of source.now.globals.index) }
-    requires free { (f : ℕ) → Leads (callees_of (text_of source.now.globals.index)) f f → ⊥ }
-    requires faultless { Faultless (text_of source.now.globals.index) names.now }
-    requires ranked { Ranked (kernel_of (text_of source.now.globals.index) names.now) }
-    requires low { CallsLow (kernel_of (text_of source.now.globals.index) names.now) }
-    requires first { known.first ≡ main_id (text_of source.now.globals.index) names.now }
-    requires threads { known.threads ≡ min (limits.amount quantity.Threads (kernel_of (text_of source.now.globals.index) names.now)) (2 ^ 64 - 1) }
-    requires variables { known.variables ≡ min (limits.amount quantity.Globals (kernel_of (text_of source.now.globals.index) names.now)) (2 ^ 64 - 1) }
-    requires terms { known.terms ≡ min (limits.amount quantity.Terms (kernel_of (text_of source.now.globals.index) names.now)) (2 ^ 64 - 1) }
-    requires levels { known.levels ≤ limits.amount quantity.Depth (kernel_of (text_of source.now.globals.index) names.now) }
+    requires items { map plain_item items.now ≡ indexed_text source.now.globals.index }
+    requires functions { functions_of functions.now ≡ int_functions (indexed_text source.now.globals.index) names.now (indexed_text source.now.globals.index) }
+    requires free { (f : ℕ) → Leads (callees_of (indexed_text source.now.globals.index)) f f → ⊥ }
+    requires faultless { Faultless (indexed_text source.now.globals.index) names.now }
+    requires ranked { Ranked (kernel_of (indexed_text source.now.globals.index) names.now) }
+    requires low { CallsLow (kernel_of (indexed_text source.now.globals.index) names.now) }
+    requires first { known.first ≡ main_id (indexed_text source.now.globals.index) names.now }
+    requires threads { known.threads ≡ min (limits.amount quantity.Threads (kernel_of (indexed_text source.now.globals.index) names.now)) (2 ^ 64 - 1) }
+    requires variables { known.variables ≡ min (limits.amount quantity.Globals (kernel_of (indexed_text source.now.globals.index) names.now)) (2 ^ 64 - 1) }
+    requires terms { known.terms ≡ min (limits.amount quantity.Terms (kernel_of (indexed_text source.now.globals.index) names.now)) (2 ^ 64 - 1) }
+    requires levels { known.levels ≤ limits.amount quantity.Depth (kernel_of (indexed_text source.now.globals.index) names.now) }
     ensures ok { OnOk result ((known.variables ≤ MAX_GLOBALS) × (known.terms ≤ MAX_TERMS) × (known.levels ≤ MAX_DEPTH)) }
-    ensures fault { IfErr result (λ e. Causes e (text_of source.now.globals.index) names.now) }
+    ensures fault { IfErr result (λ e. HasLowerCause e (indexed_text source.now.globals.index) names.now) }
 {
     let values = chain_words(alloc, source, names, functions)?;
     let globals = variables(alloc, items)?;

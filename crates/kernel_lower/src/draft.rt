@@ -4,7 +4,7 @@ ghost use Rattle.std.specs.Prelude.{◌≡◌, ◌∷◌, ◌-◌, ◌^◌, ◌+
 ghost use Rattle.forec_tree.specs.Plain.{plain_item};
 ghost use Rattle.forec_kernel.specs.Plain as kernel;
 ghost use Rattle.forec_kernel.specs.Shapes.{plain_kernel};
-ghost use Rattle.loop_check.specs.Views.{text_of};
+ghost use Rattle.loop_check.specs.Views.{indexed_text};
 ghost use Rattle.text_kernel.specs.Kernels.{kernel_of, main_id};
 ghost use Rattle.body_lower.specs.Views.{OneText};
 ghost use Rattle.kernel_lower.specs.Drafts.{thread_body};
@@ -48,9 +48,9 @@ pub fn draft(
     first: u32,
 ) -> Result<Draft, OutOfMemory>
     requires text { OneText source.now }
-    requires items { map plain_item items.now ≡ text_of source.now.globals.index }
-    requires first { first ≡ main_id (text_of source.now.globals.index) names.now }
-    ensures { IfOk result (λ d. IsDraft (kernel_of (text_of source.now.globals.index) names.now) d) }
+    requires items { map plain_item items.now ≡ indexed_text source.now.globals.index }
+    requires first { first ≡ main_id (indexed_text source.now.globals.index) names.now }
+    ensures { IfOk result (λ d. IsDraft (kernel_of (indexed_text source.now.globals.index) names.now) d) }
 {
     let globals = &source.globals;
     let list = variables(alloc, items)?;
@@ -80,10 +80,10 @@ pub fn complete(
     arrays: &[&Declared],
     draft: Draft,
 ) -> Result<KernelParts, OutOfMemory>
-    requires items { map plain_item items.now ≡ text_of source.now.globals.index }
-    requires arrays { globals_of arrays.now ≡ array_items (text_of source.now.globals.index) }
-    requires draft { IsDraft (kernel_of (text_of source.now.globals.index) names.now) draft }
-    ensures { IfOk result (λ parts. plain_kernel parts ≡ kernel_of (text_of source.now.globals.index) names.now) }
+    requires items { map plain_item items.now ≡ indexed_text source.now.globals.index }
+    requires arrays { globals_of arrays.now ≡ array_items (indexed_text source.now.globals.index) }
+    requires draft { IsDraft (kernel_of (indexed_text source.now.globals.index) names.now) draft }
+    ensures { IfOk result (λ parts. plain_kernel parts ≡ kernel_of (indexed_text source.now.globals.index) names.now) }
 {
     let globals = &source.globals;
     let list = variables(alloc, items)?;

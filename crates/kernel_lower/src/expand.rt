@@ -1,7 +1,7 @@
 //! The threads of a program, with all functions that are called as statements inlined.
 
 ghost use Rattle.std.specs.Prelude.{◌≡◌, length, IfOk};
-ghost use Rattle.loop_check.specs.Views.{text_of};
+ghost use Rattle.loop_check.specs.Views.{indexed_text};
 ghost use Rattle.body_lower.specs.Views.{OneText};
 ghost use Rattle.kernel_lower.specs.Drafts.{Expanded};
 
@@ -26,8 +26,8 @@ pub fn expand(
     first: u32,
 ) -> Result<Bodies, OutOfMemory>
     requires text { OneText source.now }
-    requires deep { deep ≡ length (text_of source.now.globals.index) }
-    ensures { IfOk result (λ b. Expanded (text_of source.now.globals.index) first b) }
+    requires deep { deep ≡ length (indexed_text source.now.globals.index) }
+    ensures { IfOk result (λ b. Expanded (indexed_text source.now.globals.index) first b) }
 {
     let mut state = State::new(alloc);
     let context = Context {

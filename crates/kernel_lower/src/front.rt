@@ -2,12 +2,12 @@
 
 ghost use Rattle.std.specs.Prelude.{◌≡◌, ◌≤◌, ◌-◌, ◌^◌, min, IfOk, IfErr, OnOk};
 ghost use Rattle.forec_kernel.specs.Shapes.{plain_kernel};
-ghost use Rattle.forec_check.specs.Checked.{text_of, names_of};
+ghost use Rattle.forec_check.specs.Checked.{checked_text, names_of};
 ghost use Rattle.text_kernel.specs.Kernels.{kernel_of};
 ghost use Rattle.text_kernel.specs.Limits.{WithinLimits, amount, limit_of};
 ghost use Rattle.text_kernel.specs.declared.limits.Quantity.TheVariants.{Threads};
 ghost use Rattle.bound_laws.specs.Paced.{Paced};
-ghost use Rattle.kernel_lower.specs.Refusals.{Causes};
+ghost use Rattle.kernel_lower.specs.Refusals.{HasLowerCause};
 
 use crate::beyond::{Outlook, beyond, foresee};
 use crate::draft::{complete, draft};
@@ -44,11 +44,11 @@ fn parts_of(
     deepest: u64,
 ) -> Result<KernelParts, LowerFault>
     requires names { names.now ≡ names_of checked.now }
-    requires threads { threads ≡ min (amount Threads (kernel_of (text_of checked.now) (names_of checked.now))) (2 ^ 64 - 1) }
+    requires threads { threads ≡ min (amount Threads (kernel_of (checked_text checked.now) (names_of checked.now))) (2 ^ 64 - 1) }
     requires few { threads ≤ limit_of Threads }
-    ensures parts { IfOk result (λ parts. plain_kernel parts ≡ kernel_of (text_of checked.now) (names_of checked.now)) }
-    ensures within { OnOk result (WithinLimits (kernel_of (text_of checked.now) (names_of checked.now))) }
-    ensures fault { IfErr result (λ e. Causes e (text_of checked.now) (names_of checked.now)) }
+    ensures parts { IfOk result (λ parts. plain_kernel parts ≡ kernel_of (checked_text checked.now) (names_of checked.now)) }
+    ensures within { OnOk result (WithinLimits (kernel_of (checked_text checked.now) (names_of checked.now))) }
+    ensures fault { IfErr result (λ e. HasLowerCause e (checked_text checked.now) (names_of checked.now)) }
 {
     let items = checked.program().items.as_slice();
     let source = Source::of(alloc, items)?;
@@ -100,10 +100,10 @@ pub fn lower_within(
     deepest: u64,
 ) -> Result<Kernel, LowerFault>
     requires { names.now ≡ names_of checked.now }
-    ensures kernel { IfOk result (λ k. plain_kernel k ≡ kernel_of (text_of checked.now) (names_of checked.now)) }
-    ensures within { OnOk result (WithinLimits (kernel_of (text_of checked.now) (names_of checked.now))) }
+    ensures kernel { IfOk result (λ k. plain_kernel k ≡ kernel_of (checked_text checked.now) (names_of checked.now)) }
+    ensures within { OnOk result (WithinLimits (kernel_of (checked_text checked.now) (names_of checked.now))) }
     ensures paced { IfOk result (λ k. Paced (plain_kernel k)) }
-    ensures fault { IfErr result (λ e. Causes e (text_of checked.now) (names_of checked.now)) }
+    ensures fault { IfErr result (λ e. HasLowerCause e (checked_text checked.now) (names_of checked.now)) }
 {
     let threads = checked.threads(alloc)?;
     within(Quantity::Threads, threads)?;
@@ -115,10 +115,10 @@ pub fn lower_within(
 /// exactly where a quantity passes its limit, and the first such quantity is reported. The kernel is paced.
 pub fn lower(alloc: Global, checked: &Checked<'_>, names: &Labels) -> Result<Kernel, LowerFault>
     requires { names.now ≡ names_of checked.now }
-    ensures kernel { IfOk result (λ k. plain_kernel k ≡ kernel_of (text_of checked.now) (names_of checked.now)) }
-    ensures within { OnOk result (WithinLimits (kernel_of (text_of checked.now) (names_of checked.now))) }
+    ensures kernel { IfOk result (λ k. plain_kernel k ≡ kernel_of (checked_text checked.now) (names_of checked.now)) }
+    ensures within { OnOk result (WithinLimits (kernel_of (checked_text checked.now) (names_of checked.now))) }
     ensures paced { IfOk result (λ k. Paced (plain_kernel k)) }
-    ensures fault { IfErr result (λ e. Causes e (text_of checked.now) (names_of checked.now)) }
+    ensures fault { IfErr result (λ e. HasLowerCause e (checked_text checked.now) (names_of checked.now)) }
 {
     lower_within(alloc, checked, names, MAX_DEPTH)
 }

@@ -3,11 +3,11 @@
 ghost use Rattle.std.specs.Prelude.{◌≡◌, map, length, IfOk};
 ghost use Rattle.forec_tree.specs.Plain.{plain_item, plain_function};
 ghost use Rattle.forec_kernel.specs.Plain as kernel;
-ghost use Rattle.loop_check.specs.Views.{text_of};
+ghost use Rattle.loop_check.specs.Views.{indexed_text};
 ghost use Rattle.text_kernel.specs.Kernels as kernels;
 ghost use Rattle.text_kernel.specs.Lowering as lowering;
 ghost use Rattle.body_lower.specs.Views.{OneText};
-ghost use Rattle.text_kernel.specs.Items.{functions_of, IsInt};
+ghost use Rattle.text_kernel.specs.Items.{functions_of, IsIntFunctionOf};
 ghost use Rattle.kernel_lower.specs.Drafts.{AreBodies, function_shape, function_text};
 
 use body_lower::{Context, FUEL, Globals, Source, State, count, in_function};
@@ -18,7 +18,7 @@ use std::alloc::Global;
 
 /// The int function that an item is.
 fn int_function_of(item: &Item) -> Option<&Function>
-    ensures { IsInt result (plain_item item.now) }
+    ensures { IsIntFunctionOf result (plain_item item.now) }
 {
     match item {
         Item::Global { .. } => None,
@@ -33,7 +33,7 @@ pub fn int_functions<'p>(
     names: &Labels,
     items: &'p [Item],
 ) -> Result<Vec<&'p Function>, OutOfMemory>
-    ensures { IfOk result (λ list. functions_of list.items ≡ kernels.int_functions (text_of globals.now.index) names.now (map plain_item items.now)) }
+    ensures { IfOk result (λ list. functions_of list.items ≡ kernels.int_functions (indexed_text globals.now.index) names.now (map plain_item items.now)) }
 {
     let mut list = Vec::new(alloc);
     for item in items {
@@ -66,8 +66,8 @@ fn translated<'p>(
     function: &'p Function,
 ) -> Result<IntFunction, OutOfMemory>
     requires { OneText source.now }
-    ensures shape { IfOk result (λ l. l.shape ≡ function_shape (text_of source.now.globals.index) names.now (plain_function function.now)) }
-    ensures body { IfOk result (λ l. kernel.stmt l.body ≡ function_text (text_of source.now.globals.index) names.now (plain_function function.now)) }
+    ensures shape { IfOk result (λ l. l.shape ≡ function_shape (indexed_text source.now.globals.index) names.now (plain_function function.now)) }
+    ensures body { IfOk result (λ l. kernel.stmt l.body ≡ function_text (indexed_text source.now.globals.index) names.now (plain_function function.now)) }
 {
     let params = count(function.params.len())?;
     let mut state = State::new(alloc);
@@ -94,8 +94,8 @@ pub fn lowered_functions<'p>(
     functions: &[&'p Function],
 ) -> Result<Functions, OutOfMemory>
     requires { OneText source.now }
-    ensures shapes { IfOk result (λ l. l.shapes.items ≡ map (function_shape (text_of source.now.globals.index) names.now) (functions_of functions.now)) }
-    ensures bodies { IfOk result (λ l. AreBodies (text_of source.now.globals.index) names.now (functions_of functions.now) l.bodies.items) }
+    ensures shapes { IfOk result (λ l. l.shapes.items ≡ map (function_shape (indexed_text source.now.globals.index) names.now) (functions_of functions.now)) }
+    ensures bodies { IfOk result (λ l. AreBodies (indexed_text source.now.globals.index) names.now (functions_of functions.now) l.bodies.items) }
 {
     let mut shapes = Vec::new(alloc);
     let mut bodies = Vec::new(alloc);

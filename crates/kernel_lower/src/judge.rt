@@ -3,7 +3,7 @@
 ghost use Rattle.std.specs.Prelude.{◌≡◌, ◌≢◌, ◌≤◌, OnOk, IfErr};
 ghost use Rattle.text_kernel.specs.Limits as limits;
 ghost use Rattle.text_kernel.specs.declared.limits.Quantity.{Quantity};
-ghost use Rattle.kernel_lower.specs.Refusals.{Passes, amount_in, First};
+ghost use Rattle.kernel_lower.specs.Refusals.{PassesLimit, amount_in, First};
 
 use crate::lower_fault::LowerFault;
 use forec_base::{MAX_DEPTH, MAX_GLOBALS, MAX_TABLE_WORDS, MAX_TERMS, MAX_THREADS, MAX_WORDS};
@@ -37,7 +37,7 @@ fn limit(what: Quantity) -> u64
 /// Whether so much of a quantity is within its limit.
 pub fn within(what: Quantity, count: u64) -> Result<(), LowerFault>
     ensures ok { OnOk result (count ≤ limits.limit_of what) }
-    ensures err { IfErr result (λ e. Passes what count e) }
+    ensures err { IfErr result (λ e. PassesLimit what count e) }
 {
     let most = limit(what);
     if most < count {

@@ -4,7 +4,7 @@ ghost use Rattle.std.specs.Prelude.{◌≡◌, ◌+◌, ◌-◌, ◌^◌, ◌<�
 ghost use Rattle.forec_kernel.specs.WellFormed.{Ranked};
 ghost use Rattle.text_kernel.specs.Limits as limits;
 ghost use Rattle.text_kernel.specs.declared.limits.Quantity.TheVariants as quantity;
-ghost use Rattle.kernel_lower.specs.Measures.{plain_draft, CallsLow, Fits, words_of_shape, depth_of_body, HasChains, HasWords};
+ghost use Rattle.kernel_lower.specs.Measures.{plain_draft, CallsLow, IsConsistent, words_of_shape, depth_of_body, HasChains, HasWords};
 
 use crate::depths::statement_depth;
 use crate::int_functions::Functions;
@@ -62,7 +62,7 @@ fn function_depths(alloc: Global, bodies: &[Statement]) -> Result<Vec<u64>, OutO
 fn chains_of(alloc: Global, draft: &Draft) -> Result<Chains, OutOfMemory>
     requires ranked { Ranked (plain_draft draft.now) }
     requires low { CallsLow (plain_draft draft.now) }
-    requires fits { Fits draft.now }
+    requires fits { IsConsistent draft.now }
     ensures { IfOk result (λ c. HasChains (plain_draft draft.now) c) }
 {
     let bodies = draft.functions.bodies.as_slice();
@@ -78,7 +78,7 @@ fn chains_of(alloc: Global, draft: &Draft) -> Result<Chains, OutOfMemory>
 pub fn words_along(alloc: Global, draft: &Draft) -> Result<Vec<u64>, OutOfMemory>
     requires ranked { Ranked (plain_draft draft.now) }
     requires low { CallsLow (plain_draft draft.now) }
-    requires fits { Fits draft.now }
+    requires fits { IsConsistent draft.now }
     ensures { IfOk result (λ list. HasWords (plain_draft draft.now) list.items) }
 {
     let chains = chains_of(alloc, draft)?;
@@ -88,7 +88,7 @@ pub fn words_along(alloc: Global, draft: &Draft) -> Result<Vec<u64>, OutOfMemory
 /// The words and the depth of a thread, with those along the chains of calls from it.
 fn thread_most(alloc: Global, draft: &Draft, chains: &Chains, t: usize) -> Result<Peak, OutOfMemory>
     requires low { CallsLow (plain_draft draft.now) }
-    requires fits { Fits draft.now }
+    requires fits { IsConsistent draft.now }
     requires chains { HasChains (plain_draft draft.now) chains.now }
     requires there { t < length draft.now.texts.items }
     ensures words { IfOk result (λ m. m.words ≡ min (limits.thread_words (plain_draft draft.now) t) (2 ^ 64 - 1)) }
@@ -109,7 +109,7 @@ fn thread_most(alloc: Global, draft: &Draft, chains: &Chains, t: usize) -> Resul
 pub fn most(alloc: Global, draft: &Draft) -> Result<Peak, OutOfMemory>
     requires ranked { Ranked (plain_draft draft.now) }
     requires low { CallsLow (plain_draft draft.now) }
-    requires fits { Fits draft.now }
+    requires fits { IsConsistent draft.now }
     ensures words { IfOk result (λ m. m.words ≡ min (limits.amount quantity.Words (plain_draft draft.now)) (2 ^ 64 - 1)) }
     ensures depth { IfOk result (λ m. m.depth ≡ min (limits.amount quantity.Depth (plain_draft draft.now)) (2 ^ 64 - 1)) }
 {

@@ -1,10 +1,10 @@
 //! What a kernel says of the threads of a program.
 
 ghost use Rattle.std.specs.Prelude.{◌≡◌, ◌<◌, ◌-◌, ◌∷◌, min, max, ◌++◌, [], ℕ, Option, None, Some, Bool, true, map, length, slice_index_or, IfOk, OnOk};
-ghost use Rattle.forec_kernel.specs.Shapes.{plain_thread, named};
-ghost use Rattle.forec_tree.specs.Rules.{bytes_of};
+ghost use Rattle.forec_kernel.specs.Shapes.{plain_thread, plain_name};
+ghost use Rattle.forec_tree.specs.Rules.{spelling_of_name};
 ghost use Rattle.body_lower.specs.Views.{of_thread};
-ghost use Rattle.kernel_lower.specs.Drafts.{vars_bare, named_from, name_of, bare_shapes, main_shape, marked_from};
+ghost use Rattle.kernel_lower.specs.Drafts.{vars_bare, named_from, optional_name_bytes, bare_shapes, main_shape, marked_from};
 ghost use Rattle.kernel_lower.specs.Marks.{MarksOf, row_uses, shape_uses, with_uses};
 
 use crate::expand::Bodies;
@@ -84,7 +84,7 @@ fn marked(alloc: Global, marks: &[bool]) -> Result<Vec<u32>, OutOfMemory>
 
 /// The bytes of a name; there are none where the number has no name.
 fn bytes(alloc: Global, names: &Labels, id: u32) -> Result<Vec<u8>, OutOfMemory>
-    ensures { IfOk result (λ v. v.items ≡ bytes_of names.now id) }
+    ensures { IfOk result (λ v. v.items ≡ spelling_of_name names.now id) }
 {
     if id >= names.len() {
         return Ok(Vec::new(alloc));
@@ -96,7 +96,7 @@ fn bytes(alloc: Global, names: &Labels, id: u32) -> Result<Vec<u8>, OutOfMemory>
 }
 
 fn label(alloc: Global, names: &Labels, id: Option<u32>) -> Result<Option<Vec<u8>>, OutOfMemory>
-    ensures { IfOk result (λ name. named name ≡ name_of names.now id) }
+    ensures { IfOk result (λ name. plain_name name ≡ optional_name_bytes names.now id) }
 {
     match id {
         None => Ok(None),

@@ -4,7 +4,7 @@ ghost use Rattle.std.specs.Prelude.{◌≡◌, ◌-◌, ◌^◌, min, sum, map, 
 ghost use Rattle.forec_tree.specs.Plain.{plain_item, plain_global};
 ghost use Rattle.text_kernel.specs.Bindings.{first_value};
 ghost use Rattle.text_kernel.specs.Kernels.{padded};
-ghost use Rattle.text_kernel.specs.Items.{globals_of, array_items, array_length, array_table, IsArray};
+ghost use Rattle.text_kernel.specs.Items.{globals_of, array_items, array_length, array_table, IsArrayOf};
 ghost use Rattle.kernel_lower.specs.Reach.{table_items};
 
 use body_lower::{first_number, is_constant};
@@ -16,7 +16,7 @@ use text_sizes::add;
 
 /// The constant array that an item declares.
 fn array(item: &Item) -> Option<&Declared>
-    ensures { IsArray result (plain_item item.now) }
+    ensures { IsArrayOf result (plain_item item.now) }
 {
     match item {
         Item::Function { .. } => None,

@@ -3,7 +3,7 @@
 ghost use Rattle.std.specs.Prelude.{◌≡◌, ◌+◌, ◌-◌, ◌^◌, ◌++◌, List, [], ◌∷◌, min, sum, map, length, IfOk, OnOk};
 ghost use Rattle.forec_tree.specs.Plain.{plain_item};
 ghost use Rattle.forec_tree.specs.Rules as rules;
-ghost use Rattle.loop_check.specs.Views.{text_of};
+ghost use Rattle.loop_check.specs.Views.{indexed_text};
 ghost use Rattle.text_kernel.specs.Kernels as kernels;
 ghost use Rattle.forec_tree.specs.Variables.{width};
 ghost use Rattle.text_kernel.specs.Items.{globals_of, variable_items, IsVariable};
@@ -77,7 +77,7 @@ pub fn variable_total(globals: &[&Declared]) -> u64
 }
 
 fn policy_of(globals: &Globals<'_>, names: &Labels, combine: Option<Combine>) -> Policy
-    ensures { result ≡ kernels.policy_of (text_of globals.now.index) names.now combine }
+    ensures { result ≡ kernels.policy_of (indexed_text globals.now.index) names.now combine }
 {
     match combine {
         None => Policy::Mod,
@@ -86,7 +86,7 @@ fn policy_of(globals: &Globals<'_>, names: &Labels, combine: Option<Combine>) ->
 }
 
 fn combine_of(globals: &Globals<'_>, names: &Labels, combine: Option<Combine>) -> Option<u32>
-    ensures { result ≡ kernels.combine_of (text_of globals.now.index) names.now combine }
+    ensures { result ≡ kernels.combine_function (indexed_text globals.now.index) names.now combine }
 {
     match combine {
         None => None,
@@ -96,7 +96,7 @@ fn combine_of(globals: &Globals<'_>, names: &Labels, combine: Option<Combine>) -
 
 /// What a kernel says of a variable.
 fn shaped(globals: &Globals<'_>, names: &Labels, e: &Element<'_>) -> Variable
-    ensures { result ≡ kernels.variable_shape (text_of globals.now.index) names.now (plain_element e.now) }
+    ensures { result ≡ kernels.variable_shape (indexed_text globals.now.index) names.now (plain_element e.now) }
 {
     Variable {
         policy: policy_of(globals, names, e.global.combine),
@@ -113,7 +113,7 @@ pub fn shapes(
     names: &Labels,
     elements: &[Element<'_>],
 ) -> Result<Vec<Variable>, OutOfMemory>
-    ensures { IfOk result (λ list. list.items ≡ map (kernels.variable_shape (text_of globals.now.index) names.now) (plain_elements elements.now)) }
+    ensures { IfOk result (λ list. list.items ≡ map (kernels.variable_shape (indexed_text globals.now.index) names.now) (plain_elements elements.now)) }
 {
     let mut list = Vec::new(alloc);
     for e in elements {
@@ -129,7 +129,7 @@ pub fn inputs(
     names: &Labels,
     elements: &[Element<'_>],
 ) -> Result<Vec<u32>, OutOfMemory>
-    ensures { IfOk result (λ list. list.items ≡ kernels.numbers_of (text_of globals.now.index) names.now rules.is_input 0 (plain_elements elements.now)) }
+    ensures { IfOk result (λ list. list.items ≡ kernels.numbers_of (indexed_text globals.now.index) names.now rules.is_input 0 (plain_elements elements.now)) }
 {
     let mut list = Vec::new(alloc);
     let mut number = 0u32;
@@ -149,7 +149,7 @@ pub fn outputs(
     names: &Labels,
     elements: &[Element<'_>],
 ) -> Result<Vec<u32>, OutOfMemory>
-    ensures { IfOk result (λ list. list.items ≡ kernels.numbers_of (text_of globals.now.index) names.now rules.is_output 0 (plain_elements elements.now)) }
+    ensures { IfOk result (λ list. list.items ≡ kernels.numbers_of (indexed_text globals.now.index) names.now rules.is_output 0 (plain_elements elements.now)) }
 {
     let mut list = Vec::new(alloc);
     let mut number = 0u32;

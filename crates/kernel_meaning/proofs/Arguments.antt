@@ -7,7 +7,7 @@ use Rattle.forec_kernel.specs.Values.{Values, AllGive, OneRaises, Setting, Sight
 use Rattle.forec_kernel.specs.Steps.{Arguments, Ready, Refused, one_more_list, arguments_then, arguments}
 use Rattle.running_texts.specs.declared.meter.Halt.{Halt}
 use Rattle.running_texts.specs.declared.meter.Halt.TheVariants.{Trapped, Over, OutOfMemory}
-use Rattle.running_texts.specs.Metered.{IsMetered, numbers, values_units}
+use Rattle.running_texts.specs.Metered.{IsMetered, values_kind, values_units}
 use Rattle.kernel_meaning.specs.Moving.{lists, lists_units}
 
 -- ---- lists so far
@@ -34,7 +34,7 @@ lists_after ns u n x (Ready ms w) =
 lists_after ns u n x (Refused place trap w) = ap (Refused place trap) (omega arith)
 
 pub lists_more : (old mid new : ℕ) (ns more : List (List ℤ)) (whole rest : Arguments) (v : Values) (x : Vec ℤ Global) → ListsSoFar old mid ns whole (arguments_then v rest) →
-    IsMetered numbers mid new (Ok x) v → more ≡ ns ++ x.items ∷ [] → ListsSoFar old new more whole rest
+    IsMetered values_kind mid new (Ok x) v → more ≡ ns ++ x.items ∷ [] → ListsSoFar old new more whole rest
 lists_more old mid new ns more whole rest v x s m e =
     record {
       units = s.units + m.by.units;
@@ -49,7 +49,7 @@ lists_least ns u (AllGive n w) (Refused place trap x) = omega arith
 lists_least ns u (OneRaises place trap w) rest = omega arith
 
 pub lists_stop : (old mid new : ℕ) (ns : List (List ℤ)) (whole rest : Arguments) (v : Values) (h : Halt) → ListsSoFar old mid ns whole (arguments_then v rest) →
-    IsMetered numbers mid new (Err h) v → IsMetered lists old new (Err h) whole
+    IsMetered values_kind mid new (Err h) v → IsMetered lists old new (Err h) whole
 lists_stop old mid new ns whole rest v (Trapped place trap) s m =
     record {
       by = record {

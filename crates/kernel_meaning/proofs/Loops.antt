@@ -7,7 +7,7 @@ use Rattle.forec_kernel.specs.Shapes.{PlainKernel}
 use Rattle.forec_kernel.specs.Values.{Value}
 use Rattle.forec_kernel.specs.Texts as plain
 use Rattle.forec_kernel.specs.Texts.{Loop, Again, Then, Watch, Last, text_of}
-use Rattle.forec_kernel.specs.Steps.{Move, Moves, move_with, Owner, evaluated, turned, entered, loop_move, statement_move, units_of}
+use Rattle.forec_kernel.specs.Steps.{Move, Moves, move_with, Owner, evaluated, turned_loop, entered_abort, loop_move, statement_move, move_units}
 use Rattle.running_texts.specs.declared.meter.Halt.{Halt}
 use Rattle.running_texts.specs.declared.meter.Halt.TheVariants.{Trapped}
 use Rattle.running_texts.proofs.MeteredLemmas.{is_zero_of, not_zero_of}
@@ -26,7 +26,7 @@ module _ (k : PlainKernel) (s : Origin) (loop : Loop) (old mid : ℕ) where
   o = record { kernel = k; uses = s.uses }
 
   abbrev loop_rest : ℤ → Move
-  loop_rest n = elim (is_zero n) [ true ↦ Moves plain.Done s.words s.copies 1 | false ↦ turned loop loop.left s.words s.copies ]
+  loop_rest n = elim (is_zero n) [ true ↦ Moves plain.Done s.words s.copies 1 | false ↦ turned_loop loop loop.left s.words s.copies ]
 
   pub loop_ends : (n : ℤ) (next : NextText) → AfterTest old mid (Ok n) (evaluated o s.words s.copies loop.test) → n ≡ pos 0 →
       next_text next ≡ plain.Done → IsMoved s old mid (Ok (step.Becomes next)) (loop_move o s.words s.copies loop)
@@ -34,10 +34,10 @@ module _ (k : PlainKernel) (s : Origin) (loop : Loop) (old mid : ℕ) where
       let go : loop_rest n ≡ Moves plain.Done s.words s.copies 1 = rw (is_zero_of n e, loop_rest) in
       step_tested s old mid n (evaluated o s.words s.copies loop.test) loop_rest next t (go ∙ ap (λ R. Moves R s.words s.copies 1) (sym same))
 
-  loop_goes : (n : ℤ) (left : Option ℕ) → n ≢ pos 0 → loop.left ≡ left → loop_rest n ≡ turned loop left s.words s.copies
+  loop_goes : (n : ℤ) (left : Option ℕ) → n ≢ pos 0 → loop.left ≡ left → loop_rest n ≡ turned_loop loop left s.words s.copies
   loop_goes n left h e =
-      let go : loop_rest n ≡ turned loop loop.left s.words s.copies = rw (not_zero_of n h, loop_rest) in
-      go ∙ ap (λ l. turned loop l s.words s.copies) e
+      let go : loop_rest n ≡ turned_loop loop loop.left s.words s.copies = rw (not_zero_of n h, loop_rest) in
+      go ∙ ap (λ l. turned_loop loop l s.words s.copies) e
 
   pub loop_unbounded : (n : ℤ) (next : NextText) → AfterTest old mid (Ok n) (evaluated o s.words s.copies loop.test) → n ≢ pos 0 → loop.left ≡ None →
       next_text next ≡ Then (text_of loop.body) (Again loop) → IsMoved s old mid (Ok (step.Becomes next)) (loop_move o s.words s.copies loop)
@@ -60,15 +60,15 @@ module _ (k : PlainKernel) (s : Origin) (loop : Loop) (old mid : ℕ) where
   loop_traps n m t h e z =
       step_trapped s old mid n (evaluated o s.words s.copies loop.test) loop_rest loop.place Turns t (loop_goes n (Some 0) h (e ∙ ap (λ j. Some j) z))
 
-  rest_least : (n : ℤ) → 1 ≤ units_of (loop_rest n)
+  rest_least : (n : ℤ) → 1 ≤ move_units (loop_rest n)
   rest_least n = pick (is_zero n)
     where
-      turned_least : (left : Option ℕ) → 1 ≤ units_of (turned loop left s.words s.copies)
+      turned_least : (left : Option ℕ) → 1 ≤ move_units (turned_loop loop left s.words s.copies)
       turned_least None = omega arith
       turned_least (Some zero) = omega arith
       turned_least (Some (suc m)) = omega arith
 
-      pick : (t : Bool) → 1 ≤ units_of (elim t [ true ↦ Moves plain.Done s.words s.copies 1 | false ↦ turned loop loop.left s.words s.copies ])
+      pick : (t : Bool) → 1 ≤ move_units (elim t [ true ↦ Moves plain.Done s.words s.copies 1 | false ↦ turned_loop loop loop.left s.words s.copies ])
       pick true = omega arith
       pick false = turned_least loop.left
 
@@ -99,17 +99,17 @@ module _ (k : PlainKernel) (s : Origin) (old mid : ℕ) (e : Expr) where
 -- what an abort with `immediate` comes to after its test
 module _ (s : Origin) (old mid : ℕ) (v : Value) (e : Expr) (weak : Bool) (body : Stmt) where
   abbrev enter_move : ℤ → Move
-  enter_move n = Moves (entered weak e body n) s.words s.copies 1
+  enter_move n = Moves (entered_abort weak e body n) s.words s.copies 1
 
   enter_to : (n : ℤ) (next : NextText) → AfterTest old mid (Ok n) v →
-      entered weak e body n ≡ next_text next → IsMoved s old mid (Ok (step.Becomes next)) (move_with v enter_move)
+      entered_abort weak e body n ≡ next_text next → IsMoved s old mid (Ok (step.Becomes next)) (move_with v enter_move)
   enter_to n next t same = step_tested s old mid n v enter_move next t (ap (λ R. Moves R s.words s.copies 1) same)
 
   pub enter_watches : (n : ℤ) (next : NextText) → AfterTest old mid (Ok n) v → n ≡ pos 0 →
       next_text next ≡ Watch weak e (text_of body) → IsMoved s old mid (Ok (step.Becomes next)) (move_with v enter_move)
   enter_watches n next t z same = enter_to n next t (at weak ∙ sym same)
     where
-      at : (w : Bool) → entered w e body n ≡ Watch w e (text_of body)
+      at : (w : Bool) → entered_abort w e body n ≡ Watch w e (text_of body)
       at true = ap (λ c. cond c (Watch true e (text_of body)) (Last (text_of body))) (is_zero_of n z)
       at false = ap (λ c. cond c (Watch false e (text_of body)) plain.Done) (is_zero_of n z)
 
@@ -117,13 +117,13 @@ module _ (s : Origin) (old mid : ℕ) (v : Value) (e : Expr) (weak : Bool) (body
       next_text next ≡ Last (text_of body) → IsMoved s old mid (Ok (step.Becomes next)) (move_with v enter_move)
   enter_lasts n next t z w same =
       enter_to n next t
-      (ap (λ x. entered x e body n) w ∙ ap (λ c. cond c (Watch true e (text_of body)) (Last (text_of body))) (not_zero_of n z) ∙ sym same)
+      (ap (λ x. entered_abort x e body n) w ∙ ap (λ c. cond c (Watch true e (text_of body)) (Last (text_of body))) (not_zero_of n z) ∙ sym same)
 
   pub enter_ends : (n : ℤ) (next : NextText) → AfterTest old mid (Ok n) v → n ≢ pos 0 → weak ≡ false →
       next_text next ≡ plain.Done → IsMoved s old mid (Ok (step.Becomes next)) (move_with v enter_move)
   enter_ends n next t z w same =
       enter_to n next t
-      (ap (λ x. entered x e body n) w ∙ ap (λ c. cond c (Watch false e (text_of body)) plain.Done) (not_zero_of n z) ∙ sym same)
+      (ap (λ x. entered_abort x e body n) w ∙ ap (λ c. cond c (Watch false e (text_of body)) plain.Done) (not_zero_of n z) ∙ sym same)
 
   pub enter_fails : (h : Halt) → AfterTest old mid (Err h) v → IsMoved s old mid (Err h) (move_with v enter_move)
   enter_fails h t = step_failed s old mid h v enter_move (λ n. omega arith) t

@@ -3,7 +3,7 @@ use Rattle.std.proofs.Common.{◌≡◌, ◌∙◌, ℕ, suc, ◌<◌, ◌&&◌,
 use Rattle.forec_kernel.specs.declared.shape.VarCopy.{VarCopy}
 use Rattle.forec_kernel.specs.Shapes.{PlainKernel}
 use Rattle.forec_kernel.specs.Values.{copy_of}
-use Rattle.forec_kernel.specs.Texts.{Text, Threads, child, Status, is_active, uses_of}
+use Rattle.forec_kernel.specs.Texts.{RunningText, Threads, child, Status, is_active, uses_of}
 use Rattle.forec_kernel.specs.Combining.{Share, contains, shares, some_marked}
 use Rattle.kernel_meaning.specs.Marks.{AreMarks, marks_it}
 
@@ -12,7 +12,7 @@ pub marked_before : (there : Bool) (s : Share) (ss : List Share) → some_marked
 marked_before true s ss = refl
 marked_before false s ss = refl
 
-pub marks_more : (k : PlainKernel) (t : ℕ) (R : Text) (w : List ℤ) (c : List VarCopy) (st : Status) (rest : Threads) (vs : List ℕ) (old new : List Bool) →
+pub marks_more : (k : PlainKernel) (t : ℕ) (R : RunningText) (w : List ℤ) (c : List VarCopy) (st : Status) (rest : Threads) (vs : List ℕ) (old new : List Bool) →
     is_active st ≡ true → AreMarks k rest vs old →
     ((i : ℕ) → i < length vs → get_or new i false ≡ (marks_it (uses_of k t) c (get_or vs i 0) || get_or old i false)) →
     AreMarks k (child t R w c st rest) vs new
@@ -22,6 +22,6 @@ marks_more k t R w c st rest vs old new active before step j i p =
     (step i p ∙ ap (λ b. marks_it (uses_of k t) c v || b) (before (suc j) i p)
     ∙ sym (marked_before (contains v (uses_of k t)) (record { from = j; copy = copy_of (uses_of k t) c v }) (shares k v (suc j) rest)))
 
-pub marks_gone : (k : PlainKernel) (t : ℕ) (R : Text) (w : List ℤ) (c : List VarCopy) (st : Status) (rest : Threads) (vs : List ℕ) (marks : List Bool) →
+pub marks_gone : (k : PlainKernel) (t : ℕ) (R : RunningText) (w : List ℤ) (c : List VarCopy) (st : Status) (rest : Threads) (vs : List ℕ) (marks : List Bool) →
     is_active st ≡ false → AreMarks k rest vs marks → AreMarks k (child t R w c st rest) vs marks
 marks_gone k t R w c st rest vs marks gone before j i p = rw gone (before (suc j) i p)

@@ -8,11 +8,11 @@ use Rattle.forec_kernel.specs.declared.terms.Spot.TheVariants as spot
 use Rattle.forec_kernel.specs.Shapes.{PlainKernel}
 use Rattle.forec_kernel.specs.Values.{Value, Gives, Raises}
 use Rattle.forec_kernel.specs.Texts as plain
-use Rattle.forec_kernel.specs.Steps.{Move, Finished, Halts, Moves, Traps, more_move, move_with, units_of, Arguments, Ready, Refused, Owner, forked, started, assigned, assigned_at, shared_at}
+use Rattle.forec_kernel.specs.Steps.{Move, Finished, Halts, Moves, Traps, more_move, move_with, move_units, Arguments, Ready, Refused, Owner, forked, started, assigned, assigned_at, shared_at}
 use Rattle.forec_kernel.specs.Terms.{Branch}
 use Rattle.running_texts.specs.declared.meter.Halt.{Halt}
 use Rattle.running_texts.specs.declared.meter.Halt.TheVariants.{Trapped, Over, OutOfMemory}
-use Rattle.running_texts.specs.Metered.{IsMetered, number, value_units}
+use Rattle.running_texts.specs.Metered.{IsMetered, value_kind, value_units}
 use Rattle.running_texts.proofs.MeteredLemmas.{tested_gives}
 use Rattle.running_texts.proofs.Tests.{AfterTest}
 use Rattle.running_threads.specs.declared.frames.NextText.{NextText}
@@ -46,13 +46,13 @@ module _ (s : Origin) where
         };
       }
 
-  units_more : (u : ℕ) (m : Move) → 1 ≤ units_of m → units_of (more_move u m) ≡ u + units_of m
+  units_more : (u : ℕ) (m : Move) → 1 ≤ move_units m → move_units (more_move u m) ≡ u + move_units m
   units_more u Finished h = absurd (omega arith)
   units_more u Halts h = absurd (omega arith)
   units_more u (Moves R words copies w) h = refl
   units_more u (Traps place trap w) h = refl
 
-  pub step_failed : (old new : ℕ) (h : Halt) (v : Value) (go : ℤ → Move) → ((x : ℤ) → 1 ≤ units_of (go x)) →
+  pub step_failed : (old new : ℕ) (h : Halt) (v : Value) (go : ℤ → Move) → ((x : ℤ) → 1 ≤ move_units (go x)) →
       AfterTest old new (Err h) v → IsMoved s old new (Err h) (move_with v go)
   step_failed old new (Trapped place trap) (Gives n u) go least t = let e : Gives n (u + 1) ≡ Raises place trap t.by.units = t.by.is in absurd (cc)
   step_failed old new (Trapped place trap) (Raises p q u) go least t =
@@ -82,7 +82,7 @@ pub with_has_units : (v : Value) (go : ℤ → Move) → ((x : ℤ) → HasUnits
 with_has_units (Gives n u) go h = more_has_units u (go n) (h n)
 with_has_units (Raises place trap u) go h = tt
 
-units_add : (u : ℕ) (m : Move) → HasUnits m → units_of (more_move u m) ≡ u + units_of m
+units_add : (u : ℕ) (m : Move) → HasUnits m → move_units (more_move u m) ≡ u + move_units m
 units_add u Finished g = absurd g
 units_add u Halts g = absurd g
 units_add u (Moves R words copies w) g = refl
@@ -116,14 +116,14 @@ more_moved s old mid new u (Err Over) m e g h = let l = h.by in record { by = om
 more_moved s old mid new u (Err OutOfMemory) m e g h = record { by = tt }
 
 pub operand_ok : (s : Origin) (old mid new : ℕ) (x : ℤ) (r : Result Step Halt) (v : Value) (go : ℤ → Move) →
-    IsMetered number old mid (Ok x) v → HasUnits (go x) → IsMoved s mid new r (go x) → IsMoved s old new r (move_with v go)
+    IsMetered value_kind old mid (Ok x) v → HasUnits (go x) → IsMoved s mid new r (go x) → IsMoved s old new r (move_with v go)
 operand_ok s old mid new x r v go m g n =
     subst (λ w. IsMoved s old new r w) (ap (λ w. move_with w go) (sym m.by.is)) (more_moved s old mid new m.by.units r (go x) m.by.left g n)
 
-units_least : (v : Value) (go : ℤ → Move) → ((x : ℤ) → HasUnits (go x)) → value_units v ≤ units_of (move_with v go)
+units_least : (v : Value) (go : ℤ → Move) → ((x : ℤ) → HasUnits (go x)) → value_units v ≤ move_units (move_with v go)
 units_least (Gives n u) go g = at (go n) (g n)
   where
-    at : (m : Move) → HasUnits m → u ≤ units_of (more_move u m)
+    at : (m : Move) → HasUnits m → u ≤ move_units (more_move u m)
     at Finished g = absurd g
     at Halts g = absurd g
     at (Moves R words copies w) g = omega arith
@@ -131,7 +131,7 @@ units_least (Gives n u) go g = at (go n) (g n)
 units_least (Raises place trap u) go g = omega arith
 
 pub operand_err : (s : Origin) (old new : ℕ) (h : Halt) (v : Value) (go : ℤ → Move) → ((x : ℤ) → HasUnits (go x)) →
-    IsMetered number old new (Err h) v → IsMoved s old new (Err h) (move_with v go)
+    IsMetered value_kind old new (Err h) v → IsMoved s old new (Err h) (move_with v go)
 operand_err s old new (Trapped place trap) v go g m =
     record { by = record { units = m.by.units; is = ap (λ w. move_with w go) m.by.is; left = m.by.left } }
 operand_err s old new Over v go g m = let l = m.by in record { by = omega (arith, units_least v go g) }
@@ -160,7 +160,7 @@ pub fork_over : (s : Origin) (old mid new : ℕ) (h : Halt) (o : Owner) (bs : Li
 fork_over s old mid new h o bs ls a m e =
     let l = m.by.left in
     let low = e.1 in
-    let whole : units_of (forked o s.words s.copies bs a) ≡ m.by.units + 1 = ap (λ x. units_of (forked o s.words s.copies bs x)) m.by.is in
+    let whole : move_units (forked o s.words s.copies bs a) ≡ m.by.units + 1 = ap (λ x. move_units (forked o s.words s.copies bs x)) m.by.is in
     subst (λ k. IsMoved s old new (Err k) (forked o s.words s.copies bs a)) (sym e.0) (record { by = omega arith })
 
 pub fork_err : (s : Origin) (old new : ℕ) (h : Halt) (o : Owner) (bs : List Branch) (a : Arguments) →
@@ -169,7 +169,7 @@ fork_err s old new (Trapped place trap) o bs a m =
     record { by = record { units = m.by.units; is = ap (forked o s.words s.copies bs) m.by.is; left = m.by.left } }
 fork_err s old new Over o bs a m = let l = m.by in record { by = omega (arith, fork_least a) }
   where
-    fork_least : (a : Arguments) → lists.units a ≤ units_of (forked o s.words s.copies bs a)
+    fork_least : (a : Arguments) → lists.units a ≤ move_units (forked o s.words s.copies bs a)
     fork_least (Ready ls u) = omega arith
     fork_least (Refused place trap u) = omega arith
 fork_err s old new OutOfMemory o bs a m = record { by = tt }
@@ -184,15 +184,15 @@ halts s left = record { by = record { units = 0; is = refl; left = omega arith }
 
 -- ---- assignments
 
-pub assigned_ok : (k : PlainKernel) (s : Origin) (to : Spot) (n : ℤ) (old mid new : ℕ) (v : Value) → IsMetered number old mid (Ok n) v → new + 1 ≡ mid →
+pub assigned_ok : (k : PlainKernel) (s : Origin) (to : Spot) (n : ℤ) (old mid new : ℕ) (v : Value) → IsMetered value_kind old mid (Ok n) v → new + 1 ≡ mid →
     IsMoved s old new (Ok (step.Sets to n)) (move_with v (λ x. assigned (record { kernel = k; uses = s.uses }) s.words s.copies to x))
 assigned_ok k s (spot.Local slot) n old mid new v m e =
     let is = ap (λ y. move_with y (λ x. assigned (record { kernel = k; uses = s.uses }) s.words s.copies (spot.Local slot) x)) m.by.is in
-    let u = ap units_of is in
+    let u = ap move_units is in
     let l = m.by.left in
     record { by = record { units = m.by.units + 1; is = is; left = omega arith } }
 assigned_ok k s (spot.Variable x) n old mid new v m e =
     let is = ap (λ y. move_with y (λ z. assigned (record { kernel = k; uses = s.uses }) s.words s.copies (spot.Variable x) z)) m.by.is in
-    let u = ap units_of is in
+    let u = ap move_units is in
     let l = m.by.left in
     record { by = record { units = m.by.units + 1; is = is; left = omega arith } }

@@ -7,8 +7,8 @@ use Rattle.forec_kernel.specs.declared.terms.Spot.TheVariants as spot
 use Rattle.forec_kernel.specs.declared.shape.VarCopy.{VarCopy}
 use Rattle.forec_kernel.specs.Shapes.{PlainKernel}
 use Rattle.forec_kernel.specs.Texts as plain
-use Rattle.forec_kernel.specs.Texts.{Text, Fork, Thread, Threads, child_of, some_running, first_trap, is_running, first_running, uses_of}
-use Rattle.forec_kernel.specs.Steps.{Path, Move, Finished, Halts, Moves, Traps, thread_after, units_of, text_move, child_move, Stepped, path_below, place_at, joined, thread_move}
+use Rattle.forec_kernel.specs.Texts.{RunningText, Fork, Thread, Threads, child_of, some_running, first_trap, is_running, first_running, uses_of}
+use Rattle.forec_kernel.specs.Steps.{Path, Move, Finished, Halts, Moves, Traps, thread_after, move_units, text_move, child_move, SteppedChildren, path_below, child_place, joined, thread_move}
 use Rattle.running_texts.specs.declared.meter.Halt.{Halt}
 use Rattle.running_texts.specs.declared.meter.Halt.TheVariants.{Trapped, Over, OutOfMemory}
 use Rattle.running_threads.specs.declared.threads.Frame.{Frame}
@@ -18,11 +18,11 @@ use Rattle.running_threads.specs.Moves.{framed_move, plugged_move}
 use Rattle.running_threads.proofs.Plugs.{move_plugged, plugged_goes, plugged_traps}
 use Rattle.kernel_meaning.specs.declared.moving.Step.{Step}
 use Rattle.kernel_meaning.specs.declared.moving.Step.TheVariants as step
-use Rattle.kernel_meaning.specs.Moving.{Origin, leads, IsMoved, IsThread, after_move, AreStepped, IsForked, place_or_first, place_behind, first_is_here}
+use Rattle.kernel_meaning.specs.Moving.{Origin, leads, IsMoved, IsThread, after_move, AreStepped, IsChildStep, place_or_first, place_behind, first_is_here}
 
 -- ---- units
 
-framed_units : (f : Frame) (w : List ℤ) (c : List VarCopy) (m : Move) → units_of (framed_move f w c m) ≡ units_of m
+framed_units : (f : Frame) (w : List ℤ) (c : List VarCopy) (m : Move) → move_units (framed_move f w c m) ≡ move_units m
 framed_units (frame.Rest list) w c Finished = refl
 framed_units (frame.Rest list) w c Halts = refl
 framed_units (frame.Rest list) w c (Moves R w' c' u) = refl
@@ -40,7 +40,7 @@ framed_units frame.Last w c Halts = refl
 framed_units frame.Last w c (Moves R w' c' u) = refl
 framed_units frame.Last w c (Traps place trap u) = refl
 
-plugged_units : (fs : List Frame) (w : List ℤ) (c : List VarCopy) (m : Move) → units_of (plugged_move fs w c m) ≡ units_of m
+plugged_units : (fs : List Frame) (w : List ℤ) (c : List VarCopy) (m : Move) → move_units (plugged_move fs w c m) ≡ move_units m
 plugged_units [] w c m = refl
 plugged_units (f ∷ fs) w c m = framed_units f w c (plugged_move fs w c m) ∙ plugged_units fs w c m
 
@@ -52,10 +52,10 @@ pub after_ok : {A : Type 0} (s : Origin) (a : Step) (old new : ℕ) (m : Move) (
 after_ok s a old new m t now fs x h e =
     let u = plugged_units fs s.words s.copies m in
     let l = h.by.left in
-    let left : new + units_of (plugged_move fs s.words s.copies m) ≡ old = omega arith in
+    let left : new + move_units (plugged_move fs s.words s.copies m) ≡ old = omega arith in
     record { by = (e h.by.units ∙ ap (λ n. thread_after t (plugged_move fs s.words s.copies n)) (sym h.by.is), left) }
 
-pub after_goes : (t now : Thread) (fs : List Frame) (w w' : List ℤ) (c c' : List VarCopy) (R : Text) (u : ℕ) →
+pub after_goes : (t now : Thread) (fs : List Frame) (w w' : List ℤ) (c c' : List VarCopy) (R : RunningText) (u : ℕ) →
     now ≡ record t { text = plugged fs R; words = w'; copies = c' } → now ≡ thread_after t (plugged_move fs w c (Moves R w' c' u))
 after_goes t now fs w w' c c' R u e = e ∙ ap (thread_after t) (sym (plugged_goes fs w w' c c' R u))
 
@@ -64,9 +64,9 @@ pub after_trap : {A : Type 0} (s : Origin) (old new : ℕ) (m : Move) (t now : T
     IsThread old new now (Ok x) (after_move t (plugged_move fs s.words s.copies m))
 after_trap s old new m t now fs x place trap h e =
     let u = plugged_units fs s.words s.copies m in
-    let v = ap units_of h.by.is in
+    let v = ap move_units h.by.is in
     let l = h.by.left in
-    let left : new + units_of (plugged_move fs s.words s.copies m) ≡ old = omega arith in
+    let left : new + move_units (plugged_move fs s.words s.copies m) ≡ old = omega arith in
     record {
       by = (
         e ∙ ap (thread_after t) (sym (plugged_traps fs s.words s.copies place trap h.by.units))
@@ -85,7 +85,7 @@ after_err s old new OutOfMemory m t now fs out h = record { by = tt }
 -- ---- a thread
 
 -- a step of the focus, as a step of the thread's text
-pub quiet_step : {A : Type 0} (k : PlainKernel) (path : Path) (old new : ℕ) (t now : Thread) (fs : List Frame) (R : Text) (r : Result A Halt) →
+pub quiet_step : {A : Type 0} (k : PlainKernel) (path : Path) (old new : ℕ) (t now : Thread) (fs : List Frame) (R : RunningText) (r : Result A Halt) →
     t.text ≡ plugged fs R →
     IsThread old new now r (after_move t (plugged_move fs t.words t.copies (text_move k path (uses_of k t.number) t.words t.copies R))) →
     IsThread old new now r (after_move t (thread_move k path t))
@@ -93,14 +93,14 @@ quiet_step k path old new t now fs R r e h =
     subst (λ m. IsThread old new now r (after_move t m))
     (sym (ap (text_move k path (uses_of k t.number) t.words t.copies) e ∙ move_plugged k path (uses_of k t.number) t.words t.copies fs R)) h
 
-forked_by : {A : Type 0} (old new : ℕ) (t now : Thread) (fs : List Frame) (R' : Text) (r : Result A Halt) (inner : Move) →
-    now ≡ record t { text = plugged fs R' } → IsForked old new t.words t.copies R' r inner →
+forked_by : {A : Type 0} (old new : ℕ) (t now : Thread) (fs : List Frame) (R' : RunningText) (r : Result A Halt) (inner : Move) →
+    now ≡ record t { text = plugged fs R' } → IsChildStep old new t.words t.copies R' r inner →
     IsThread old new now r (after_move t (plugged_move fs t.words t.copies inner))
 forked_by old new t now fs R' (Ok x) inner same h =
     let u = plugged_units fs t.words t.copies inner in
-    let v = ap units_of h.by.is in
+    let v = ap move_units h.by.is in
     let l = h.by.left in
-    let left : new + units_of (plugged_move fs t.words t.copies inner) ≡ old = omega arith in
+    let left : new + move_units (plugged_move fs t.words t.copies inner) ≡ old = omega arith in
     record {
       by = (
         after_goes t now fs t.words t.words t.copies t.copies R' h.by.units same
@@ -113,9 +113,9 @@ forked_by old new t now fs R' (Err Over) inner same h =
     let u = plugged_units fs t.words t.copies inner in let l = h.by in record { by = omega arith }
 forked_by old new t now fs R' (Err OutOfMemory) inner same h = record { by = tt }
 
-pub forked_step : {A : Type 0} (k : PlainKernel) (path : Path) (old new : ℕ) (t now : Thread) (fs : List Frame) (R R' : Text) (r : Result A Halt) →
+pub forked_step : {A : Type 0} (k : PlainKernel) (path : Path) (old new : ℕ) (t now : Thread) (fs : List Frame) (R R' : RunningText) (r : Result A Halt) →
     t.text ≡ plugged fs R → now ≡ record t { text = plugged fs R' } →
-    IsForked old new t.words t.copies R' r (text_move k path (uses_of k t.number) t.words t.copies R) →
+    IsChildStep old new t.words t.copies R' r (text_move k path (uses_of k t.number) t.words t.copies R) →
     IsThread old new now r (after_move t (thread_move k path t))
 forked_step k path old new t now fs R R' r e same h =
     quiet_step k path old new t now fs R r e (forked_by old new t now fs R' r (text_move k path (uses_of k t.number) t.words t.copies R) same h)
@@ -123,21 +123,21 @@ forked_step k path old new t now fs R R' r e same h =
 -- ---- a fork
 
 pub fork_goes : {A : Type 0} (k : PlainKernel) (path below : Path) (place : ℕ) (uses : List ℕ) (w : List ℤ) (c : List VarCopy) (cs now : Threads)
-    (old new : ℕ) (r : Result A Halt) → some_running cs ≡ true → below ≡ path_below path cs → place ≡ place_at path cs →
-    AreStepped old new now r (child_move k below place cs) → IsForked old new w c (Fork now) r (text_move k path uses w c (Fork cs))
+    (old new : ℕ) (r : Result A Halt) → some_running cs ≡ true → below ≡ path_below path cs → place ≡ child_place path cs →
+    AreStepped old new now r (child_move k below place cs) → IsChildStep old new w c (Fork now) r (text_move k path uses w c (Fork cs))
 fork_goes k path below place uses w c cs now old new r some b p s =
     let branch : Bool → Move =
     λ t. elim t [
       | true ↦
-          let s = child_move k (path_below path cs) (place_at path cs) cs in Moves (Fork s.children) w c s.units
+          let s = child_move k (path_below path cs) (child_place path cs) cs in Moves (Fork s.children) w c s.units
       | false ↦ joined (record { kernel = k; uses = uses }) w c cs (first_trap cs)
     ] in
-    let given : child_move k below place cs ≡ child_move k (path_below path cs) (place_at path cs) cs =
+    let given : child_move k below place cs ≡ child_move k (path_below path cs) (child_place path cs) cs =
     ap (λ q. child_move k q place cs) b ∙ ap (λ i. child_move k (path_below path cs) i cs) p in
-    subst (λ t. IsForked old new w c (Fork now) r (branch t)) (sym some)
-    (subst (λ x. IsForked old new w c (Fork now) r (Moves (Fork x.children) w c x.units)) given (at r (child_move k below place cs) s))
+    subst (λ t. IsChildStep old new w c (Fork now) r (branch t)) (sym some)
+    (subst (λ x. IsChildStep old new w c (Fork now) r (Moves (Fork x.children) w c x.units)) given (at r (child_move k below place cs) s))
   where
-    at : {A : Type 0} (r : Result A Halt) (s : Stepped) → AreStepped old new now r s → IsForked old new w c (Fork now) r (Moves (Fork s.children) w c s.units)
+    at : {A : Type 0} (r : Result A Halt) (s : SteppedChildren) → AreStepped old new now r s → IsChildStep old new w c (Fork now) r (Moves (Fork s.children) w c s.units)
     at (Ok x) s h = record { by = record { units = s.units; is = ap (λ l. Moves (Fork l) w c s.units) (sym h.by.0); left = h.by.1 } }
     at (Err (Trapped place trap)) s h = record { by = h.by }
     at (Err Over) s h = record { by = h.by }
@@ -189,12 +189,12 @@ fork_joins k path uses w c cs none =
     let branch : Bool → Move =
     λ t. elim t [
       | true ↦
-          let s = child_move k (path_below path cs) (place_at path cs) cs in Moves (Fork s.children) w c s.units
+          let s = child_move k (path_below path cs) (child_place path cs) cs in Moves (Fork s.children) w c s.units
       | false ↦ joined (record { kernel = k; uses = uses }) w c cs (first_trap cs)
     ] in
     ap branch none
 
-pub after_write : {A : Type 0} (s : Origin) (a : Step) (old new : ℕ) (m : Move) (t now : Thread) (fs : List Frame) (w' : List ℤ) (c' : List VarCopy) (R : Text) (x : A) →
+pub after_write : {A : Type 0} (s : Origin) (a : Step) (old new : ℕ) (m : Move) (t now : Thread) (fs : List Frame) (w' : List ℤ) (c' : List VarCopy) (R : RunningText) (x : A) →
     IsMoved s old new (Ok a) m → ((u : ℕ) → leads s a u ≡ Moves R w' c' u) → now ≡ record t { text = plugged fs R; words = w'; copies = c' } →
     IsThread old new now (Ok x) (after_move t (plugged_move fs s.words s.copies m))
 after_write s a old new m t now fs w' c' R x h e same =

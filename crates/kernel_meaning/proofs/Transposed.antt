@@ -5,13 +5,13 @@ use Rattle.forec_base.specs.declared.Policy.{Policy}
 use Rattle.forec_kernel.specs.declared.shape.VarCopy.{VarCopy}
 use Rattle.forec_kernel.specs.Shapes.{PlainKernel}
 use Rattle.forec_kernel.specs.Values.{Value, Gives, Raises, copy_of}
-use Rattle.forec_kernel.specs.Texts.{Text, Threads, no_threads, child, Status, is_active, uses_of}
-use Rattle.forec_kernel.specs.Combining.{Share, contains, shares, takes_part, taking_part, some_marked, Joint, fold_calls, last_value, variable_calls, combined_value, variable_of, combine_of, part_of, joined_copies, calls_of, calls_from, calls_at, count_threads, in_order, Cost, Costs, Fails, more_cost, cost_of, join_cost}
+use Rattle.forec_kernel.specs.Texts.{RunningText, Threads, no_threads, child, Status, is_active, uses_of}
+use Rattle.forec_kernel.specs.Combining.{Share, contains, shares, takes_part, taking_part, some_marked, Joint, fold_calls, last_value, variable_calls, combined_value, variable_of, combine_of, part_of, joined_copies, joint_calls, calls_from, calls_at, count_threads, calls_in_order, Cost, Costs, Fails, more_cost, cost_of, join_cost}
 use Rattle.running_texts.specs.declared.folds.Fold.{Fold}
 use Rattle.running_texts.specs.declared.meter.Halt.{Halt}
 use Rattle.running_texts.specs.declared.meter.Halt.TheVariants as halt
 use Rattle.running_texts.specs.Metered.{IsMetered}
-use Rattle.kernel_meaning.specs.Moving.{AreJoined, cost_units}
+use Rattle.kernel_meaning.specs.Moving.{CombiningAnswers, cost_units}
 use Rattle.running_texts.specs.Folding.{Added, Comes, Stays, Folds, Come, Stop, as_added, added, branch_added, fold_then, branch_folds, more_folds, folds_then, all_folds, first_folds, folded_copies, folding, folds_units}
 
 -- ---- what is left of a variable's fold
@@ -133,10 +133,10 @@ cost_append [] ys = sym (more_none (cost_of ys))
 cost_append (Gives n u ∷ xs) ys = ap (more_cost u) (cost_append xs ys) ∙ more_then u (cost_of xs) (cost_of ys)
 cost_append (Raises place trap u ∷ xs) ys = refl
 
-in_order_same : (n j : ℕ) (as' bs : List (List Joint)) → ((i : ℕ) → j ≤ i → calls_at i as' ≡ calls_at i bs) → in_order j n as' ≡ in_order j n bs
+in_order_same : (n j : ℕ) (as' bs : List (List Joint)) → ((i : ℕ) → j ≤ i → calls_at i as' ≡ calls_at i bs) → calls_in_order j n as' ≡ calls_in_order j n bs
 in_order_same zero j as' bs h = refl
 in_order_same (suc n) j as' bs h =
-    ap (λ l. l ++ in_order (suc j) n as') (h j (omega arith))
+    ap (λ l. l ++ calls_in_order (suc j) n as') (h j (omega arith))
     ∙ ap (λ l. calls_at j bs ++ l) (in_order_same n (suc j) as' bs (λ i le. h i (omega arith)))
 
 -- ---- one branch and one variable
@@ -196,7 +196,7 @@ module _ (k : PlainKernel) (j : ℕ) (rest : Threads) where
       (refl, λ i lt. ap (λ g. calls_from i (rest_from g total (later e))) (sym is), ap (λ g. Some (last_value total (rest_from g total (later e)))) (sym is))
   entry_in e x (Some f) (Some total) is = entry_called e total f (f total x.value) is
 
-  entry_ok : (e : Fold) (t : ℕ) (R : Text) (w : List ℤ) (c : List VarCopy) (st : Status) → is_active st ≡ true →
+  entry_ok : (e : Fold) (t : ℕ) (R : RunningText) (w : List ℤ) (c : List VarCopy) (st : Status) → is_active st ≡ true →
       EntryOk e (rest_calls (function_of k e) e.total (part k j e (child t R w c st rest)))
       (rest_total (function_of k e) e.total (part k j e (child t R w c st rest)))
       (branch_added k (uses_of k t) c e)
@@ -249,7 +249,7 @@ module _ (k : PlainKernel) (j : ℕ) (rest : Threads) where
   more_entry e row end all ends (Stays place trap u) fs h b =
       cost_append (calls_from j row) (calls_at j all) ∙ ap (λ x. cost_then x (cost_of (calls_at j all))) h
 
-  branch_ok : (es : List Fold) (t : ℕ) (R : Text) (w : List ℤ) (c : List VarCopy) (st : Status) → is_active st ≡ true →
+  branch_ok : (es : List Fold) (t : ℕ) (R : RunningText) (w : List ℤ) (c : List VarCopy) (st : Status) → is_active st ≡ true →
       BranchOk (rows k j es (child t R w c st rest)) (done k j es (child t R w c st rest)) (branch_folds k (uses_of k t) c es)
   branch_ok [] t R w c st active = (refl, λ i lt. refl, refl)
   branch_ok (e ∷ es) t R w c st active =
@@ -279,20 +279,20 @@ done_none k j (e ∷ es) = ap (λ x. record e { total = x } ∷ es) (total_is (f
     total_is f (Some total) = from_is f total
 
 branch_matches : (k : PlainKernel) (j n : ℕ) (rest : Threads) (all : List (List Joint)) (ends : List Fold) (fs : Folds) → BranchOk k j rest all ends fs →
-    ((es : List Fold) → Matches (all_folds k rest es) (cost_of (in_order (suc j) n (rows k (suc j) es rest))) (done k (suc j) es rest)) →
-    Matches (folds_then fs (all_folds k rest)) (cost_of (calls_at j all ++ in_order (suc j) n all)) ends
+    ((es : List Fold) → Matches (all_folds k rest es) (cost_of (calls_in_order (suc j) n (rows k (suc j) es rest))) (done k (suc j) es rest)) →
+    Matches (folds_then fs (all_folds k rest)) (cost_of (calls_at j all ++ calls_in_order (suc j) n all)) ends
 branch_matches k j n rest all ends (Come es u) b ih =
-    let same : in_order (suc j) n all ≡ in_order (suc j) n (rows k (suc j) es rest) =
+    let same : calls_in_order (suc j) n all ≡ calls_in_order (suc j) n (rows k (suc j) es rest) =
     in_order_same n (suc j) all (rows k (suc j) es rest) (λ i le. b.1 i (omega arith)) in
-    let cost : cost_of (calls_at j all ++ in_order (suc j) n all) ≡ more_cost u (cost_of (in_order (suc j) n (rows k (suc j) es rest))) =
-    cost_append (calls_at j all) (in_order (suc j) n all) ∙ ap (λ x. cost_then x (cost_of (in_order (suc j) n all))) b.0 ∙ ap (λ l. more_cost u (cost_of l)) same in
+    let cost : cost_of (calls_at j all ++ calls_in_order (suc j) n all) ≡ more_cost u (cost_of (calls_in_order (suc j) n (rows k (suc j) es rest))) =
+    cost_append (calls_at j all) (calls_in_order (suc j) n all) ∙ ap (λ x. cost_then x (cost_of (calls_in_order (suc j) n all))) b.0 ∙ ap (λ l. more_cost u (cost_of l)) same in
     subst (λ c. Matches (more_folds u (all_folds k rest es)) c ends) (sym cost)
-    (subst (λ d. Matches (more_folds u (all_folds k rest es)) (more_cost u (cost_of (in_order (suc j) n (rows k (suc j) es rest)))) d) (sym b.2)
-    (more_matches u (all_folds k rest es) (cost_of (in_order (suc j) n (rows k (suc j) es rest))) (done k (suc j) es rest) (ih es)))
+    (subst (λ d. Matches (more_folds u (all_folds k rest es)) (more_cost u (cost_of (calls_in_order (suc j) n (rows k (suc j) es rest)))) d) (sym b.2)
+    (more_matches u (all_folds k rest es) (cost_of (calls_in_order (suc j) n (rows k (suc j) es rest))) (done k (suc j) es rest) (ih es)))
 branch_matches k j n rest all ends (Stop place trap u) b ih =
-    cost_append (calls_at j all) (in_order (suc j) n all) ∙ ap (λ x. cost_then x (cost_of (in_order (suc j) n all))) b
+    cost_append (calls_at j all) (calls_in_order (suc j) n all) ∙ ap (λ x. cost_then x (cost_of (calls_in_order (suc j) n all))) b
 
-rows_skip : (k : PlainKernel) (j t : ℕ) (R : Text) (w : List ℤ) (c : List VarCopy) (st : Status) (rest : Threads) (es : List Fold) → is_active st ≡ false →
+rows_skip : (k : PlainKernel) (j t : ℕ) (R : RunningText) (w : List ℤ) (c : List VarCopy) (st : Status) (rest : Threads) (es : List Fold) → is_active st ≡ false →
     rows k j es (child t R w c st rest) ≡ rows k (suc j) es rest
 rows_skip k j t R w c st rest [] e = refl
 rows_skip k j t R w c st rest (x ∷ es) e =
@@ -301,7 +301,7 @@ rows_skip k j t R w c st rest (x ∷ es) e =
     (shares k x.variable (suc j) rest))) ∷ rows k j es (child t R w c st rest)) e
     ∙ ap (λ l. rest_calls (function_of k x) x.total (part k (suc j) x rest) ∷ l) (rows_skip k j t R w c st rest es e)
 
-done_skip : (k : PlainKernel) (j t : ℕ) (R : Text) (w : List ℤ) (c : List VarCopy) (st : Status) (rest : Threads) (es : List Fold) → is_active st ≡ false →
+done_skip : (k : PlainKernel) (j t : ℕ) (R : RunningText) (w : List ℤ) (c : List VarCopy) (st : Status) (rest : Threads) (es : List Fold) → is_active st ≡ false →
     done k j es (child t R w c st rest) ≡ done k (suc j) es rest
 done_skip k j t R w c st rest [] e = refl
 done_skip k j t R w c st rest (x ∷ es) e =
@@ -313,7 +313,7 @@ done_skip k j t R w c st rest (x ∷ es) e =
     ∙ ap (λ l. record x { total = rest_total (function_of k x) x.total (part k (suc j) x rest) } ∷ l) (done_skip k j t R w c st rest es e)
 
 pub transposed : (k : PlainKernel) (cs : Threads) (j : ℕ) (es : List Fold) →
-    Matches (all_folds k cs es) (cost_of (in_order j (count_threads cs) (rows k j es cs))) (done k j es cs)
+    Matches (all_folds k cs es) (cost_of (calls_in_order j (count_threads cs) (rows k j es cs))) (done k j es cs)
 transposed k no_threads j es = (refl, done_none k j es)
 transposed k (child t R w c st rest) j es = pick (is_active st) refl (λ x. transposed k rest (suc j) x)
   where
@@ -324,9 +324,9 @@ transposed k (child t R w c st rest) j es = pick (is_active st) refl (λ x. tran
     n = count_threads rest
 
     pick : (a : Bool) → is_active st ≡ a →
-        ((x : List Fold) → Matches (all_folds k rest x) (cost_of (in_order (suc j) (count_threads rest) (rows k (suc j) x rest))) (done k (suc j) x rest)) →
+        ((x : List Fold) → Matches (all_folds k rest x) (cost_of (calls_in_order (suc j) (count_threads rest) (rows k (suc j) x rest))) (done k (suc j) x rest)) →
         Matches (cond a (folds_then (branch_folds k (uses_of k t) c es) (all_folds k rest)) (all_folds k rest es))
-        (cost_of (calls_at j (rows k j es (child t R w c st rest)) ++ in_order (suc j) (count_threads rest) (rows k j es (child t R w c st rest))))
+        (cost_of (calls_at j (rows k j es (child t R w c st rest)) ++ calls_in_order (suc j) (count_threads rest) (rows k j es (child t R w c st rest))))
         (done k j es (child t R w c st rest))
     pick true e ih =
         branch_matches k j (count_threads rest) rest (rows k j es (child t R w c st rest)) (done k j es (child t R w c st rest)) (branch_folds k (uses_of k t) c es)
@@ -334,12 +334,12 @@ transposed k (child t R w c st rest) j es = pick (is_active st) refl (λ x. tran
     pick false e ih =
         let skipped = rows_skip k j t R w c st rest es e in
         let quiet : calls_at j (rows k j es (child t R w c st rest)) ≡ [] = ap (calls_at j) skipped ∙ rows_quiet k (suc j) j es rest (omega arith) in
-        let cost : cost_of (calls_at j (rows k j es (child t R w c st rest)) ++ in_order (suc j) (count_threads rest) (rows k j es (child t R w c st rest)))
-        ≡ cost_of (in_order (suc j) (count_threads rest) (rows k (suc j) es rest)) =
-        ap (λ l. cost_of (l ++ in_order (suc j) (count_threads rest) (rows k j es (child t R w c st rest)))) quiet
-        ∙ ap (λ l. cost_of (in_order (suc j) (count_threads rest) l)) skipped in
+        let cost : cost_of (calls_at j (rows k j es (child t R w c st rest)) ++ calls_in_order (suc j) (count_threads rest) (rows k j es (child t R w c st rest)))
+        ≡ cost_of (calls_in_order (suc j) (count_threads rest) (rows k (suc j) es rest)) =
+        ap (λ l. cost_of (l ++ calls_in_order (suc j) (count_threads rest) (rows k j es (child t R w c st rest)))) quiet
+        ∙ ap (λ l. cost_of (calls_in_order (suc j) (count_threads rest) l)) skipped in
         subst (λ x. Matches (all_folds k rest es) x (done k j es (child t R w c st rest))) (sym cost)
-        (subst (λ d. Matches (all_folds k rest es) (cost_of (in_order (suc j) (count_threads rest) (rows k (suc j) es rest))) d)
+        (subst (λ d. Matches (all_folds k rest es) (cost_of (calls_in_order (suc j) (count_threads rest) (rows k (suc j) es rest))) d)
         (sym (done_skip k j t R w c st rest es e)) (ih es))
 
 -- ---- what a join costs and gives
@@ -353,11 +353,11 @@ value_is : (f : Option (ℤ → ℤ → Value)) (base : ℤ) (ss : List Share) �
 value_is f base [] = refl
 value_is f base (s ∷ ss) = ap (last_value s.copy.value) (calls_are f (s ∷ ss))
 
-rows_are : (k : PlainKernel) (cs : Threads) (uses : List ℕ) (copies : List VarCopy) → calls_of k cs uses copies ≡ rows k 0 (first_folds uses copies) cs
+rows_are : (k : PlainKernel) (cs : Threads) (uses : List ℕ) (copies : List VarCopy) → joint_calls k cs uses copies ≡ rows k 0 (first_folds uses copies) cs
 rows_are k cs [] copies = refl
 rows_are k cs (v ∷ uses) [] = refl
 rows_are k cs (v ∷ uses) (c ∷ copies) =
-    ap (λ r. r ∷ calls_of k cs uses copies) (calls_are (combine_of k (variable_of k v).combine) (part_of k cs v c.value))
+    ap (λ r. r ∷ joint_calls k cs uses copies) (calls_are (combine_of k (variable_of k v).combine) (part_of k cs v c.value))
     ∙ ap (λ l. rest_calls (combine_of k (variable_of k v).combine) None (part_of k cs v c.value) ∷ l) (rows_are k cs uses copies)
 
 copies_are : (k : PlainKernel) (cs : Threads) (uses : List ℕ) (copies : List VarCopy) →
@@ -379,22 +379,22 @@ pub join_gives : (k : PlainKernel) (cs : Threads) (uses : List ℕ) (copies : Li
 join_gives k cs uses copies =
     at (all_folds k cs (first_folds uses copies)) (transposed k cs 0 (first_folds uses copies))
   where
-    cost : join_cost k cs uses copies ≡ cost_of (in_order 0 (count_threads cs) (rows k 0 (first_folds uses copies) cs))
-    cost = ap (λ l. cost_of (in_order 0 (count_threads cs) l)) (rows_are k cs uses copies)
+    cost : join_cost k cs uses copies ≡ cost_of (calls_in_order 0 (count_threads cs) (rows k 0 (first_folds uses copies) cs))
+    cost = ap (λ l. cost_of (calls_in_order 0 (count_threads cs) l)) (rows_are k cs uses copies)
 
-    at : (fs : Folds) → Matches fs (cost_of (in_order 0 (count_threads cs) (rows k 0 (first_folds uses copies) cs))) (done k 0 (first_folds uses copies) cs) →
+    at : (fs : Folds) → Matches fs (cost_of (calls_in_order 0 (count_threads cs) (rows k 0 (first_folds uses copies) cs))) (done k 0 (first_folds uses copies) cs) →
         JoinGives k cs uses copies fs
     at (Come es u) m = (
-      ap (λ l. cost_of (in_order 0 (count_threads cs) l)) (rows_are k cs uses copies) ∙ m.0,
+      ap (λ l. cost_of (calls_in_order 0 (count_threads cs) l)) (rows_are k cs uses copies) ∙ m.0,
       copies_are k cs uses copies ∙ ap (folded_copies k cs uses copies) (sym m.1),
     )
-    at (Stop place trap u) m = ap (λ l. cost_of (in_order 0 (count_threads cs) l)) (rows_are k cs uses copies) ∙ m
+    at (Stop place trap u) m = ap (λ l. cost_of (calls_in_order 0 (count_threads cs) l)) (rows_are k cs uses copies) ∙ m
 
 -- ---- under an allowance
 
 pub joined_ok : (k : PlainKernel) (cs : Threads) (uses : List ℕ) (copies : List VarCopy) (first : List Fold) (old new : ℕ) (v : Vec Fold Global) (w : Vec VarCopy Global) →
     first ≡ first_folds uses copies → IsMetered folding old new (Ok v) (all_folds k cs first) → w.items ≡ folded_copies k cs uses copies v.items →
-    AreJoined old new (Ok w) (joined_copies k cs uses copies) (join_cost k cs uses copies)
+    CombiningAnswers old new (Ok w) (joined_copies k cs uses copies) (join_cost k cs uses copies)
 joined_ok k cs uses copies first old new v w e m g =
     let is : all_folds k cs (first_folds uses copies) ≡ Come v.items m.by.units = ap (all_folds k cs) (sym e) ∙ m.by.is in
     let both : JoinGives k cs uses copies (Come v.items m.by.units) = subst (JoinGives k cs uses copies) is (join_gives k cs uses copies) in
@@ -407,7 +407,7 @@ join_units k cs uses copies (Stop place trap u) m = ap cost_units (sym m)
 
 pub joined_err : (k : PlainKernel) (cs : Threads) (uses : List ℕ) (copies : List VarCopy) (first : List Fold) (old new : ℕ) (h : Halt) →
     first ≡ first_folds uses copies → IsMetered folding old new (Err h) (all_folds k cs first) →
-    AreJoined old new (Err h) (joined_copies k cs uses copies) (join_cost k cs uses copies)
+    CombiningAnswers old new (Err h) (joined_copies k cs uses copies) (join_cost k cs uses copies)
 joined_err k cs uses copies first old new (halt.Trapped place trap) e m =
     let is : all_folds k cs (first_folds uses copies) ≡ Stop place trap m.by.units = ap (all_folds k cs) (sym e) ∙ m.by.is in
     let both : JoinGives k cs uses copies (Stop place trap m.by.units) = subst (JoinGives k cs uses copies) is (join_gives k cs uses copies) in

@@ -10,15 +10,15 @@ use Rattle.forec_kernel.specs.declared.shape.KernelParts.{KernelParts}
 use Rattle.forec_kernel.specs.Shapes.{plain_kernel}
 use Rattle.forec_kernel.specs.Terms.{Expr, Stmt}
 use Rattle.forec_kernel.specs.Values.{Value, cleared}
-use Rattle.forec_kernel.specs.Texts.{Text, Loop, Done, Run, Then, Turning, Resting, Fork, Held, Watch, Last, Thread, Threads, no_threads, child, first_running, is_running, some_running, all_over, first_trap, ended_are_gone, put_copy}
+use Rattle.forec_kernel.specs.Texts.{RunningText, Loop, Done, Run, Then, Turning, Resting, Fork, Held, Watch, Last, Thread, Threads, no_threads, child, first_running, is_running, some_running, all_over, first_trap, ended_are_gone, put_copy}
 use Rattle.forec_kernel.specs.Steps as plain
-use Rattle.forec_kernel.specs.Steps.{Path, Move, Moves, Traps, units_of, move_with, thread_after, Owner, evaluated, statement_move, loop_move, joined, text_move, Arguments, Ready, Refused, Stepped}
+use Rattle.forec_kernel.specs.Steps.{Path, Move, Moves, Traps, move_units, move_with, thread_after, Owner, evaluated, statement_move, loop_move, joined, text_move, Arguments, Ready, Refused, SteppedChildren}
 use Rattle.forec_kernel.specs.Ticks.{Going}
 use Rattle.forec_kernel.specs.Combining.{Cost, Costs, Fails}
 use Rattle.running_texts.specs.declared.meter.Halt.{Halt}
 use Rattle.running_texts.specs.declared.meter.Halt.TheVariants.{Trapped, Over, OutOfMemory}
 use Rattle.running_texts.specs.declared.evaluation.ThreadValues.{ThreadValues}
-use Rattle.running_texts.specs.Metered.{Paid, Kind, IsMetered, number}
+use Rattle.running_texts.specs.Metered.{Paid, ResultKind, IsMetered, value_kind}
 use Rattle.running_threads.specs.Moves.{next_text}
 use Rattle.kernel_meaning.specs.declared.moving.Step.{Step}
 use Rattle.kernel_meaning.specs.declared.moving.Step.TheVariants.{Finishes, Halts, Sets, SetsAt, Puts, Clears, Joins, Becomes}
@@ -28,16 +28,16 @@ pub record Origin : Type 0 where
   pub uses : List ℕ
   pub words : List ℤ
   pub copies : List VarCopy
-  pub text : Text
+  pub text : RunningText
 
-abbrev pub origin : List ℕ → List ℤ → List VarCopy → Text → Origin
+abbrev pub origin : List ℕ → List ℤ → List VarCopy → RunningText → Origin
 origin uses words copies R = record { uses = uses; words = words; copies = copies; text = R }
 
-abbrev pub origin_in : ThreadValues → Text → Origin
+abbrev pub origin_in : ThreadValues → RunningText → Origin
 origin_in v R = origin v.uses.now v.words.now v.copies.now R
 
 -- what is left of a fork whose copies are combined
-abbrev pub rested : Text → Text
+abbrev pub rested : RunningText → RunningText
 rested (Fork cs) = cond (all_over cs) Done (Held (ended_are_gone cs))
 rested R = R
 
@@ -53,15 +53,15 @@ leads s (Clears slot n) u = Moves Done (cleared s.words slot n) s.copies u
 leads s (Joins copies) u = Moves (rested s.text) s.words copies.items u
 leads s (Becomes next) u = Moves (next_text next) s.words s.copies u
 
-pub record Led (s : Origin) (old new : ℕ) (a : Step) (m : Move) : Type 0 where
+pub record IsPaidStep (s : Origin) (old new : ℕ) (a : Step) (m : Move) : Type 0 where
   pub units : ℕ
   pub is : m ≡ leads s a units
-  pub left : new + units_of m ≡ old
+  pub left : new + move_units m ≡ old
 
 abbrev pub MovedBy : Origin → ℕ → ℕ → Result Step Halt → Move → Type 0
-MovedBy s old new (Ok a) m = Led s old new a m
+MovedBy s old new (Ok a) m = IsPaidStep s old new a m
 MovedBy s old new (Err (Trapped place trap)) m = Paid old new m (Traps place trap)
-MovedBy s old new (Err Over) m = old < units_of m
+MovedBy s old new (Err Over) m = old < move_units m
 MovedBy s old new (Err OutOfMemory) m = Unit {0}
 
 -- What a step under an allowance answers: the step or the trap, with its units paid; or Over exactly where the units exceed the allowance.
@@ -79,12 +79,12 @@ value_in k v e = evaluated (owner_in k v) v.words.now v.copies.now e
 -- a statement's step, whatever text the statement is
 abbrev pub StatementMoved : KernelParts → ThreadValues → Stmt → ℕ → ℕ → Result Step Halt → Type 0
 StatementMoved k v s old new result =
-    (R : Text) → IsMoved (origin_in v R) old new result (statement_move (owner_in k v) v.words.now v.copies.now s)
+    (R : RunningText) → IsMoved (origin_in v R) old new result (statement_move (owner_in k v) v.words.now v.copies.now s)
 
 -- the step of a loop in progress
 abbrev pub LoopMoved : KernelParts → ThreadValues → Loop → ℕ → ℕ → Result Step Halt → Type 0
 LoopMoved k v loop old new result =
-    (R : Text) → IsMoved (origin_in v R) old new result (loop_move (owner_in k v) v.words.now v.copies.now loop)
+    (R : RunningText) → IsMoved (origin_in v R) old new result (loop_move (owner_in k v) v.words.now v.copies.now loop)
 
 -- the step of a fork none of whose children is running
 abbrev pub ForkMoved : KernelParts → ThreadValues → Threads → ℕ → ℕ → Result Step Halt → Type 0
@@ -92,14 +92,14 @@ ForkMoved k v cs old new result =
     IsMoved (origin_in v (Fork cs)) old new result (joined (owner_in k v) v.words.now v.copies.now cs (first_trap cs))
 
 -- the step of a focus, along every path
-abbrev pub FocusMoved : KernelParts → ThreadValues → Text → ℕ → ℕ → Result Step Halt → Type 0
+abbrev pub FocusMoved : KernelParts → ThreadValues → RunningText → ℕ → ℕ → Result Step Halt → Type 0
 FocusMoved k v R old new result =
     (path : Path) → IsMoved (origin_in v R) old new result (text_move (plain_kernel k) path v.uses.now v.words.now v.copies.now R)
 
 -- the step after a part: what is done with the part's number, under what the part left of the allowance
 abbrev pub IsMoveAfter : Result ℤ Halt → ℕ → ℕ → Result Step Halt → (Origin → ℤ → Move) → Type 0
 IsMoveAfter part mid new result go =
-    (s : Origin) (old : ℕ) (v : Value) → IsMetered number old mid part v → IsMoved s old new result (move_with v (go s))
+    (s : Origin) (old : ℕ) (v : Value) → IsMetered value_kind old mid part v → IsMoved s old new result (move_with v (go s))
 
 -- ---- the arguments of the branches of a `par`
 
@@ -107,14 +107,14 @@ abbrev pub lists_units : Arguments → ℕ
 lists_units (Ready ls u) = u
 lists_units (Refused place trap u) = u
 
-abbrev pub lists : Kind (Vec (Vec ℤ Global) Global) Arguments
+abbrev pub lists : ResultKind (Vec (Vec ℤ Global) Global) Arguments
 lists = record { gives = λ v u. Ready (map (λ w. w.items) v.items) u; stops = Refused; units = lists_units }
 
 -- ---- threads and children, changed in place
 
 -- a thread after a move, with the move's units
 abbrev pub after_move : Thread → Move → Going
-after_move t m = record { thread = thread_after t m; units = units_of m }
+after_move t m = record { thread = thread_after t m; units = move_units m }
 
 abbrev pub StandsBy : {A : Type 0} → ℕ → ℕ → Thread → Result A Halt → Going → Type 0
 StandsBy old new t (Ok x) g = (t ≡ g.thread) × (new + g.units ≡ old)
@@ -126,29 +126,29 @@ StandsBy old new t (Err OutOfMemory) g = Unit {0}
 pub record IsThread {A : Type 0} (old new : ℕ) (t : Thread) (result : Result A Halt) (g : Going) : Type 0 where
   pub by : StandsBy old new t result g
 
-abbrev pub SteppedBy : {A : Type 0} → ℕ → ℕ → Threads → Result A Halt → Stepped → Type 0
+abbrev pub SteppedBy : {A : Type 0} → ℕ → ℕ → Threads → Result A Halt → SteppedChildren → Type 0
 SteppedBy old new cs (Ok x) s = (cs ≡ s.children) × (new + s.units ≡ old)
 SteppedBy old new cs (Err (Trapped place trap)) s = ⊥
 SteppedBy old new cs (Err Over) s = old < s.units
 SteppedBy old new cs (Err OutOfMemory) s = Unit {0}
 
 -- the same of children
-pub record AreStepped {A : Type 0} (old new : ℕ) (cs : Threads) (result : Result A Halt) (s : Stepped) : Type 0 where
+pub record AreStepped {A : Type 0} (old new : ℕ) (cs : Threads) (result : Result A Halt) (s : SteppedChildren) : Type 0 where
   pub by : SteppedBy old new cs result s
 
 -- a focus that is a fork one of whose children is running
-abbrev pub running_below : Text → Bool
+abbrev pub running_below : RunningText → Bool
 running_below (Fork cs) = some_running cs
 running_below R = false
 
-abbrev pub ForkedBy : {A : Type 0} → ℕ → ℕ → List ℤ → List VarCopy → Text → Result A Halt → Move → Type 0
+abbrev pub ForkedBy : {A : Type 0} → ℕ → ℕ → List ℤ → List VarCopy → RunningText → Result A Halt → Move → Type 0
 ForkedBy old new w c R (Ok x) m = Paid old new m (Moves R w c)
 ForkedBy old new w c R (Err (Trapped place trap)) m = ⊥
-ForkedBy old new w c R (Err Over) m = old < units_of m
+ForkedBy old new w c R (Err Over) m = old < move_units m
 ForkedBy old new w c R (Err OutOfMemory) m = Unit {0}
 
 -- the focus that a step of one of its children gives
-pub record IsForked {A : Type 0} (old new : ℕ) (w : List ℤ) (c : List VarCopy) (R : Text) (result : Result A Halt) (m : Move) : Type 0 where
+pub record IsChildStep {A : Type 0} (old new : ℕ) (w : List ℤ) (c : List VarCopy) (R : RunningText) (result : Result A Halt) (m : Move) : Type 0 where
   pub by : ForkedBy old new w c R result m
 
 -- a place among children, or the leftmost running one
@@ -186,5 +186,5 @@ JoinedBy old new (Err Over) joined cost = old < cost_units cost
 JoinedBy old new (Err OutOfMemory) joined cost = Unit {0}
 
 -- What combining answers: the parent's copies, with the units of the calls paid; or their first trap; or Over exactly where they exceed the allowance.
-pub record AreJoined (old new : ℕ) (result : Result (Vec VarCopy Global) Halt) (joined : List VarCopy) (cost : Cost) : Type 0 where
+pub record CombiningAnswers (old new : ℕ) (result : Result (Vec VarCopy Global) Halt) (joined : List VarCopy) (cost : Cost) : Type 0 where
   pub by : JoinedBy old new result joined cost

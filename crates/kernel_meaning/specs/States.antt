@@ -14,7 +14,7 @@ use Rattle.forec_kernel.specs.declared.shape.Outcome.TheVariants as outcome
 use Rattle.running_texts.specs.declared.meter.Halt.{Halt}
 use Rattle.running_texts.specs.declared.meter.Halt.TheVariants.{Trapped, Over, OutOfMemory}
 use Rattle.running_threads.specs.declared.threads.Thread.{Thread}
-use Rattle.running_threads.specs.Views.{plain_thread, standing, focused}
+use Rattle.running_threads.specs.Views.{plain_running_thread, plain_status, focused}
 use Rattle.running_threads.specs.Moves.{plugged_move}
 use Rattle.kernel_meaning.specs.declared.moving.Step.{Step}
 use Rattle.kernel_meaning.specs.Moving.{Origin, origin, IsMoved, IsThread, after_move}
@@ -26,20 +26,20 @@ origin_of uses t = origin uses t.words.items t.copies.items (focused t.focus)
 
 -- a thread after a step of its focus
 abbrev pub after_focus : Thread → Move → plain.Thread
-after_focus t m = thread_after (plain_thread t) (plugged_move t.frames.items t.words.items t.copies.items m)
+after_focus t m = thread_after (plain_running_thread t) (plugged_move t.frames.items t.words.items t.copies.items m)
 
 -- what a thread comes to, and what is answered, where a step of its focus has come to this
 abbrev pub TakesStep : {A : Type 0} → List ℕ → Thread → Thread → Result Step Halt → Result A Halt → Type 0
 TakesStep uses t now step result =
     (old new : ℕ) (m : Move) → IsMoved (origin_of uses t) old new step m →
-    IsThread old new (plain_thread now) result (after_move (plain_thread t) (plugged_move t.frames.items t.words.items t.copies.items m))
+    IsThread old new (plain_running_thread now) result (after_move (plain_running_thread t) (plugged_move t.frames.items t.words.items t.copies.items m))
 
-abbrev pub main_state : Option Thread → ticks.State
+abbrev pub main_state : Option Thread → ticks.TickState
 main_state None = ticks.Fresh
-main_state (Some t) = ticks.After_tick (plain_thread t)
+main_state (Some t) = ticks.After_tick (plain_running_thread t)
 
 -- the plain value of a state
-abbrev pub plain_state : State → ticks.State
+abbrev pub plain_state : State → ticks.TickState
 plain_state s = main_state s.main
 
 -- the tick of a kernel from a state
@@ -84,11 +84,11 @@ pub record Advances {A : Type 0} (k : PlainKernel) (before after : plain.Thread)
 
 -- ---- how a tick ends
 
-abbrev pub told : PlainKernel → ticks.State → Option Thread → ticks.Tick
-told k old None = record { outcome = outcome.Over; outputs = []; state = old }
-told k old (Some t) =
+abbrev pub told_tick : PlainKernel → ticks.TickState → Option Thread → ticks.Tick
+told_tick k old None = record { outcome = outcome.Over; outputs = []; state = old }
+told_tick k old (Some t) =
     record {
-      outcome = outcome_of (standing t.status);
+      outcome = outcome_of (plain_status t.status);
       outputs = values_of (uses_of k 0) t.copies.items k.shape.outputs;
-      state = ticks.After_tick (plain_thread t);
+      state = ticks.After_tick (plain_running_thread t);
     }

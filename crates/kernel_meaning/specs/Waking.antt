@@ -11,18 +11,18 @@ use Rattle.forec_kernel.specs.declared.shape.KernelParts.{KernelParts}
 use Rattle.forec_kernel.specs.Shapes.{PlainKernel, plain_kernel}
 use Rattle.forec_kernel.specs.Values.{Value, Gives, Raises}
 use Rattle.forec_kernel.specs.Texts as plain
-use Rattle.forec_kernel.specs.Steps.{Woken, Wakes, Stays, waking_units, woken, text_if, status_of, evaluated, Stepped}
+use Rattle.forec_kernel.specs.Steps.{Woken, Wakes, Stays, waking_units, woken, text_if, status_of, evaluated, SteppedChildren}
 use Rattle.forec_kernel.specs.Ticks.{Going}
 use Rattle.running_texts.specs.declared.meter.Halt.{Halt}
 use Rattle.running_texts.specs.declared.meter.Halt.TheVariants.{Trapped, Over, OutOfMemory}
 use Rattle.running_texts.specs.declared.evaluation.ThreadValues.{ThreadValues}
-use Rattle.running_texts.specs.Metered.{Paid, Kind}
+use Rattle.running_texts.specs.Metered.{Paid, ResultKind}
 use Rattle.running_threads.specs.declared.threads.Frame.{Frame}
 use Rattle.running_threads.specs.declared.threads.Frame.TheVariants as frame
 use Rattle.running_threads.specs.declared.threads.Focus.{Focus}
 use Rattle.running_threads.specs.declared.threads.Thread.{Thread}
 use Rattle.running_threads.specs.declared.threads.Children.{Children}
-use Rattle.running_threads.specs.Views.{plugged, focused, threads, plain_thread}
+use Rattle.running_threads.specs.Views.{plugged, focused, threads, plain_running_thread}
 use Rattle.kernel_meaning.specs.declared.wakes.Reach.{Reach}
 use Rattle.kernel_meaning.specs.declared.wakes.Reach.TheVariants as reach
 
@@ -77,21 +77,21 @@ ReachedBy f before after old new (Err (Trapped place trap)) = Paid old new f (St
 ReachedBy f before after old new (Err Over) = old < fate_units f
 ReachedBy f before after old new (Err OutOfMemory) = Unit {0}
 
-pub record Reached (f : Fate) (before after : List Frame) (old new : ℕ) (result : Result Reach Halt) : Type 0 where
+pub record IsReached (f : Fate) (before after : List Frame) (old new : ℕ) (result : Result Reach Halt) : Type 0 where
   pub by : ReachedBy f before after old new result
 
 -- ---- a focus, a thread, children
 
-abbrev pub waking : Kind Focus Woken
-waking = record { gives = λ F u. Wakes (focused F) u; stops = Stays; units = waking_units }
+abbrev pub waking_kind : ResultKind Focus Woken
+waking_kind = record { gives = λ F u. Wakes (focused F) u; stops = Stays; units = waking_units }
 
 -- a thread that runs on, with another text and other copies
-abbrev pub awake : plain.Thread → plain.Text → List VarCopy → plain.Thread
+abbrev pub awake : plain.Thread → plain.RunningText → List VarCopy → plain.Thread
 awake t R copies = record t { text = R; copies = copies; status = plain.Running }
 
 -- a thread that wakes with these copies
-abbrev pub woken_thread : PlainKernel → List ℕ → plain.Thread → List VarCopy → Going
-woken_thread k uses t copies =
+abbrev pub woken_going : PlainKernel → List ℕ → plain.Thread → List VarCopy → Going
+woken_going k uses t copies =
     let r = woken k uses t.words copies t.text in
     record {
       thread = record { number = t.number; text = text_if t.text r; words = t.words; copies = copies; status = status_of r };
@@ -99,7 +99,7 @@ woken_thread k uses t copies =
     }
 
 abbrev pub WokenBy : ℕ → ℕ → Result Thread Halt → Going → Type 0
-WokenBy old new (Ok t) g = (plain_thread t ≡ g.thread) × (new + g.units ≡ old)
+WokenBy old new (Ok t) g = (plain_running_thread t ≡ g.thread) × (new + g.units ≡ old)
 WokenBy old new (Err (Trapped place trap)) g = ⊥
 WokenBy old new (Err Over) g = old < g.units
 WokenBy old new (Err OutOfMemory) g = Unit {0}
@@ -107,11 +107,11 @@ WokenBy old new (Err OutOfMemory) g = Unit {0}
 pub record WokenTo (old new : ℕ) (result : Result Thread Halt) (g : Going) : Type 0 where
   pub by : WokenBy old new result g
 
-abbrev pub AwokenBy : ℕ → ℕ → Result Children Halt → Stepped → Type 0
+abbrev pub AwokenBy : ℕ → ℕ → Result Children Halt → SteppedChildren → Type 0
 AwokenBy old new (Ok cs) s = (threads cs ≡ s.children) × (new + s.units ≡ old)
 AwokenBy old new (Err (Trapped place trap)) s = ⊥
 AwokenBy old new (Err Over) s = old < s.units
 AwokenBy old new (Err OutOfMemory) s = Unit {0}
 
-pub record AreWoken (old new : ℕ) (result : Result Children Halt) (s : Stepped) : Type 0 where
+pub record AreWoken (old new : ℕ) (result : Result Children Halt) (s : SteppedChildren) : Type 0 where
   pub by : AwokenBy old new result s

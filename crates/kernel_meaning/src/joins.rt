@@ -8,7 +8,7 @@ ghost use Rattle.running_texts.specs.Folding.{all_folds, folded_copies, folding}
 ghost use Rattle.running_threads.specs.Views.{threads};
 ghost use Rattle.running_texts.specs.Lookups.{IsLookup};
 ghost use Rattle.kernel_meaning.specs.Marks.{AreMarks, marks_it};
-ghost use Rattle.kernel_meaning.specs.Moving.{AreJoined, ForkMoved};
+ghost use Rattle.kernel_meaning.specs.Moving.{CombiningAnswers, ForkMoved};
 
 use crate::moving::Step;
 use forec_kernel::{KernelParts, VarCopy};
@@ -123,7 +123,7 @@ fn join_copies(
     children: &Children<'_>,
     left: &mut u64,
 ) -> Result<Vec<VarCopy>, Halt>
-    ensures { AreJoined left.old left.new result
+    ensures { CombiningAnswers left.old left.new result
         (joined_copies (plain_kernel kernel.now) (threads children.now) uses.now copies.now)
         (join_cost (plain_kernel kernel.now) (threads children.now) uses.now copies.now) }
 {

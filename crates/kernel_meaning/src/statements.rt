@@ -6,8 +6,8 @@ ghost use Rattle.forec_kernel.specs.Plain.{expr, exprs, stmt, branch};
 ghost use Rattle.forec_kernel.specs.Terms as terms;
 ghost use Rattle.forec_kernel.specs.Texts as plain;
 ghost use Rattle.forec_kernel.specs.Values.{vals, setting, index_in, cleared};
-ghost use Rattle.forec_kernel.specs.Steps.{Moves, arguments, entered, assigned, assigned_at, shared_at};
-ghost use Rattle.running_texts.specs.Metered.{IsMetered, number, numbers, sight_of};
+ghost use Rattle.forec_kernel.specs.Steps.{Moves, arguments, entered_abort, assigned, assigned_at, shared_at};
+ghost use Rattle.running_texts.specs.Metered.{IsMetered, value_kind, values_kind, sight_of};
 ghost use Rattle.running_threads.specs.Views.{plain_loop};
 ghost use Rattle.kernel_meaning.specs.Moving.{IsMoved, IsMoveAfter, LoopMoved, StatementMoved, Origin, lists, value_in};
 
@@ -27,7 +27,7 @@ pub(crate) fn number_of(
     e: &Expression,
     left: &mut u64,
 ) -> Result<i32, Halt>
-    ensures { IsMetered number left.old left.new result (value_in kernel.now values.now (expr e.now)) }
+    ensures { IsMetered value_kind left.old left.new result (value_in kernel.now values.now (expr e.now)) }
 {
     let deep = kernel.functions.as_slice().len();
     evaluate(alloc, kernel, deep, values, e, left)
@@ -40,7 +40,7 @@ fn numbers_of(
     list: &[Expression],
     left: &mut u64,
 ) -> Result<Vec<i32>, Halt>
-    ensures { IsMetered numbers left.old left.new result
+    ensures { IsMetered values_kind left.old left.new result
         (vals (setting (plain_kernel kernel.now)) (sight_of values.now) (exprs list.now)) }
 {
     let deep = kernel.functions.as_slice().len();
@@ -133,7 +133,7 @@ fn after_enter<'k>(
     left: &mut u64,
 ) -> Result<Step<'k>, Halt>
     ensures { IsMoveAfter part left.old left.new result
-        (λ s n. Moves (entered weak (expr test.now) (stmt body.now) n) s.words s.copies 1) }
+        (λ s n. Moves (entered_abort weak (expr test.now) (stmt body.now) n) s.words s.copies 1) }
 {
     match tested(part, left) {
         Ok(n) => {

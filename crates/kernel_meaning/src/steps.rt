@@ -3,9 +3,9 @@
 ghost use Rattle.std.specs.Prelude.{◌≡◌, ◌<◌, ◌+◌, ℕ, ℤ, IfOk, List, Err, true, false};
 ghost use Rattle.forec_kernel.specs.Shapes.{plain_kernel};
 ghost use Rattle.forec_kernel.specs.Texts as plain;
-ghost use Rattle.forec_kernel.specs.Steps.{Finished, Halts, place_at, path_below, text_move, child_move, thread_move};
-ghost use Rattle.running_threads.specs.Views.{threads, focused, standing, plain_thread};
-ghost use Rattle.kernel_meaning.specs.Moving.{FocusMoved, leads, rested, AreStepped, IsForked, IsThread, after_move};
+ghost use Rattle.forec_kernel.specs.Steps.{Finished, Halts, child_place, path_below, text_move, child_move, thread_move};
+ghost use Rattle.running_threads.specs.Views.{threads, focused, plain_status, plain_running_thread};
+ghost use Rattle.kernel_meaning.specs.Moving.{FocusMoved, leads, rested, AreStepped, IsChildStep, IsThread, after_move};
 ghost use Rattle.kernel_meaning.specs.Moving.{place_or_first, first_is_here, place_behind, running_below};
 ghost use Rattle.kernel_meaning.specs.States.{origin_of, after_focus, TakesStep};
 ghost use Rattle.kernel_meaning.specs.declared.moving.Step.TheVariants.{Sets, Puts};
@@ -55,7 +55,7 @@ fn focus_step<'k>(
 
 /// A thread whose focus has nothing left to do: what follows it, or the thread's end.
 fn finish(t: &mut Thread<'_>) -> Result<(), AllocError>
-    ensures { IfOk result (λ _. plain_thread t.new ≡ after_focus t.old Finished) }
+    ensures { IfOk result (λ _. plain_running_thread t.new ≡ after_focus t.old Finished) }
 {
     match resume(&mut t.frames)? {
         Some(focus) => t.focus = focus,
@@ -66,7 +66,7 @@ fn finish(t: &mut Thread<'_>) -> Result<(), AllocError>
 
 /// A thread whose focus halts: it leaves the last piece of a weak abort, or the thread is paused.
 fn halt(t: &mut Thread<'_>)
-    ensures { plain_thread t.new ≡ after_focus t.old Halts }
+    ensures { plain_running_thread t.new ≡ after_focus t.old Halts }
 {
     if leave_last(&mut t.frames) {
         t.focus = Focus::Done;
@@ -92,7 +92,7 @@ fn rest(focus: &mut Focus<'_>)
 
 /// A number goes marked to a copy.
 fn put(uses: &[u32], t: &mut Thread<'_>, variable: usize, value: i32)
-    ensures { (u : ℕ) → plain_thread t.new
+    ensures { (u : ℕ) → plain_running_thread t.new
         ≡ after_focus t.old (leads (origin_of uses.now t.old) (Puts variable value) u) }
 {
     let copy = VarCopy {
@@ -105,7 +105,7 @@ fn put(uses: &[u32], t: &mut Thread<'_>, variable: usize, value: i32)
 
 /// A number goes to a word, or marked to a copy.
 fn set(uses: &[u32], t: &mut Thread<'_>, to: Spot, value: i32)
-    ensures { (u : ℕ) → plain_thread t.new ≡ after_focus t.old (leads (origin_of uses.now t.old) (Sets to value) u) }
+    ensures { (u : ℕ) → plain_running_thread t.new ≡ after_focus t.old (leads (origin_of uses.now t.old) (Sets to value) u) }
 {
     match to {
         Spot::Local { slot } => {
@@ -199,7 +199,7 @@ fn behind(at: Option<u32>) -> Option<u32>
 
 /// The child that a path picks; none for the leftmost running one.
 fn picked(path: &[u32], children: &Children<'_>) -> Option<u32>
-    ensures { place_or_first result (threads children.now) ≡ place_at path.now (threads children.now) }
+    ensures { place_or_first result (threads children.now) ≡ child_place path.now (threads children.now) }
 {
     match path {
         [] => None,
@@ -238,8 +238,8 @@ pub(crate) fn thread_step<'k>(
     t: &mut Thread<'k>,
     left: &mut u64,
 ) -> Result<(), Halt>
-    ensures { IsThread left.old left.new (plain_thread t.new) result
-        (after_move (plain_thread t.old) (thread_move (plain_kernel kernel.now) path.now (plain_thread t.old))) }
+    ensures { IsThread left.old left.new (plain_running_thread t.new) result
+        (after_move (plain_running_thread t.old) (thread_move (plain_kernel kernel.now) path.now (plain_running_thread t.old))) }
 {
     if runs_below(&t.focus) {
         return fork_step(alloc, kernel, path, &mut t.focus, left);
@@ -264,7 +264,7 @@ fn fork_step<'k>(
     left: &mut u64,
 ) -> Result<(), Halt>
     requires { running_below (focused focus.old) ≡ true }
-    ensures { (uses : List ℕ) (w : List ℤ) (c : List VarCopy) → IsForked left.old left.new w c (focused focus.new) result
+    ensures { (uses : List ℕ) (w : List ℤ) (c : List VarCopy) → IsChildStep left.old left.new w c (focused focus.new) result
         (text_move (plain_kernel kernel.now) path.now uses w c (focused focus.old)) }
 {
     match focus {

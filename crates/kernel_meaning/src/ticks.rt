@@ -6,9 +6,9 @@ ghost use Rattle.forec_kernel.specs.Texts.{uses_of, is_running, text_of, body_of
 ghost use Rattle.forec_kernel.specs.Values.{fresh_words};
 ghost use Rattle.forec_kernel.specs.Ticks as ticks;
 ghost use Rattle.forec_kernel.specs.Ticks.{begin, start_copies, unmarked, with_row, values_of, outcome_of};
-ghost use Rattle.running_threads.specs.Views.{plain_thread, standing};
+ghost use Rattle.running_threads.specs.Views.{plain_running_thread, plain_status};
 ghost use Rattle.kernel_meaning.specs.Waking.{WokenTo};
-ghost use Rattle.kernel_meaning.specs.States.{plain_state, Advances, CarriesOn, tick_of_state, told, is_told};
+ghost use Rattle.kernel_meaning.specs.States.{plain_state, Advances, CarriesOn, tick_of_state, told_tick, is_told};
 
 use crate::forks::start_body;
 use crate::moving::set_copy;
@@ -98,7 +98,7 @@ fn first_thread<'k>(
     kernel: &'k KernelParts,
     copies: Vec<VarCopy>,
 ) -> Result<Thread<'k>, AllocError>
-    ensures { IfOk result (λ x. plain_thread x ≡ record {
+    ensures { IfOk result (λ x. plain_running_thread x ≡ record {
       number = 0;
       text = text_of (body_of (plain_kernel kernel.now) 0);
       words = fresh_words [] (words_of (plain_kernel kernel.now) 0);
@@ -171,7 +171,7 @@ fn advance<'k>(
     main: &mut Thread<'k>,
     left: &mut u64,
 ) -> Result<(), Halt>
-    ensures { Advances (plain_kernel kernel.now) (plain_thread main.old) (plain_thread main.new) left.old left.new result }
+    ensures { Advances (plain_kernel kernel.now) (plain_running_thread main.old) (plain_running_thread main.new) left.old left.new result }
 {
     match next_path(alloc, order, at, main) {
         Ok(path) => thread_step(alloc, kernel, &path, main, left),
@@ -188,8 +188,8 @@ fn run_free<'k>(
     main: &mut Thread<'k>,
     left: &mut u64,
 ) -> Result<(), Halt>
-    ensures on { CarriesOn (plain_kernel kernel.now) (plain_thread main.old) (plain_thread main.new) left.old left.new result }
-    ensures paid { IfOk result (λ _. (left.new ≤ left.old) × (is_running (standing main.new.status) ≡ true → left.new < left.old)) }
+    ensures on { CarriesOn (plain_kernel kernel.now) (plain_running_thread main.old) (plain_running_thread main.new) left.old left.new result }
+    ensures paid { IfOk result (λ _. (left.new ≤ left.old) × (is_running (plain_status main.new.status) ≡ true → left.new < left.old)) }
 {
     let before = *left;
     'free: while runs(main.status) {
@@ -215,8 +215,8 @@ fn run_tick<'k>(
     main: &mut Thread<'k>,
     left: &mut u64,
 ) -> Result<(), Halt>
-    ensures on { CarriesOn (plain_kernel kernel.now) (plain_thread main.old) (plain_thread main.new) left.old left.new result }
-    ensures stopped { IfOk result (λ _. is_running (standing main.new.status) ≡ false) }
+    ensures on { CarriesOn (plain_kernel kernel.now) (plain_running_thread main.old) (plain_running_thread main.new) left.old left.new result }
+    ensures stopped { IfOk result (λ _. is_running (plain_status main.new.status) ≡ false) }
 {
     let mut at = 0;
     'steps: while runs(main.status) {
@@ -237,7 +237,7 @@ fn tick_of<'k>(
     order: &[u32],
     budget: u64,
 ) -> Result<Option<Thread<'k>>, OutOfMemory>
-    ensures { IfOk result (λ o. tick_of_state kernel.now budget state.now row.now ≡ told (plain_kernel kernel.now) (plain_state state.now) o) }
+    ensures { IfOk result (λ o. tick_of_state kernel.now budget state.now row.now ≡ told_tick (plain_kernel kernel.now) (plain_state state.now) o) }
 {
     let mut left = budget;
     match begin_tick(alloc, kernel, state, row, &mut left) {
@@ -252,7 +252,7 @@ fn tick_of<'k>(
 }
 
 fn outcome(status: Status) -> Outcome
-    ensures { result ≡ outcome_of (standing status) }
+    ensures { result ≡ outcome_of (plain_status status) }
 {
     match status {
         Status::Running => Outcome::Over,
@@ -280,8 +280,8 @@ fn write_outputs(uses: &[u32], copies: &[VarCopy], variables: &[u32], outputs: &
 /// How a tick ended; its outputs are written where the program goes on or has ended.
 fn tell(kernel: &KernelParts, main: &Thread<'_>, outputs: &mut [i32]) -> Outcome
     requires { length outputs.old ≡ length kernel.now.shape.outputs.items }
-    ensures outcome { result ≡ outcome_of (standing main.now.status) }
-    ensures outputs { outputs.new ≡ cond (is_told (outcome_of (standing main.now.status)))
+    ensures outcome { result ≡ outcome_of (plain_status main.now.status) }
+    ensures outputs { outputs.new ≡ cond (is_told (outcome_of (plain_status main.now.status)))
         (values_of (uses_of (plain_kernel kernel.now) 0) main.now.copies.items kernel.now.shape.outputs.items) outputs.old }
 {
     let outcome = outcome(main.status);

@@ -5,8 +5,8 @@ ghost use Rattle.forec_kernel.specs.Shapes.{plain_kernel};
 ghost use Rattle.forec_kernel.specs.Steps.{woken, woken_children};
 ghost use Rattle.running_texts.specs.Metered.{IsMetered};
 ghost use Rattle.forec_kernel.specs.Texts.{child_of};
-ghost use Rattle.running_threads.specs.Views.{threads, focused, plugged, plain_thread, standing};
-ghost use Rattle.kernel_meaning.specs.Waking.{Reached, fate_in_thread, waking, WokenTo, awake, woken_thread, AreWoken};
+ghost use Rattle.running_threads.specs.Views.{threads, focused, plugged, plain_running_thread, plain_status};
+ghost use Rattle.kernel_meaning.specs.Waking.{IsReached, fate_in_thread, waking_kind, WokenTo, awake, woken_going, AreWoken};
 
 use crate::statements::number_of;
 use forec_kernel::{KernelParts, VarCopy};
@@ -56,7 +56,7 @@ fn wake_frames<'k>(
     after: &mut Vec<Frame<'k>>,
     left: &mut u64,
 ) -> Result<Reach, Halt>
-    ensures { Reached (fate_in_thread kernel.now values.now frames.now) after.old.items after.new.items left.old left.new result }
+    ensures { IsReached (fate_in_thread kernel.now values.now frames.now) after.old.items after.new.items left.old left.new result }
 {
     match frames {
         [] => Ok(Reach::Focus),
@@ -103,7 +103,7 @@ fn with_text<'k>(
     focus: Focus<'k>,
     copies: Vec<VarCopy>,
 ) -> Result<Thread<'k>, AllocError>
-    ensures { IfOk result (λ x. plain_thread x ≡ awake (plain_thread t.now) (plugged frames.entry.items (focused focus.entry)) copies.items) }
+    ensures { IfOk result (λ x. plain_running_thread x ≡ awake (plain_running_thread t.now) (plugged frames.entry.items (focused focus.entry)) copies.items) }
 {
     let words = Vec::from_slice(alloc, &t.words)?;
     Ok(Thread {
@@ -123,7 +123,7 @@ fn trapped_at<'k>(
     copies: Vec<VarCopy>,
     status: Status,
 ) -> Result<Thread<'k>, AllocError>
-    ensures { IfOk result (λ x. plain_thread x ≡ record (plain_thread t.now) { copies = copies.items; status = standing status }) }
+    ensures { IfOk result (λ x. plain_running_thread x ≡ record (plain_running_thread t.now) { copies = copies.items; status = plain_status status }) }
 {
     let mut stays = duplicate_thread(alloc, t)?;
     stays.copies = copies;
@@ -141,7 +141,7 @@ pub(crate) fn wake_thread<'k>(
     copies: Vec<VarCopy>,
     left: &mut u64,
 ) -> Result<Thread<'k>, Halt>
-    ensures { WokenTo left.old left.new result (woken_thread (plain_kernel kernel.now) uses.now (plain_thread t.now) copies.items) }
+    ensures { WokenTo left.old left.new result (woken_going (plain_kernel kernel.now) uses.now (plain_running_thread t.now) copies.items) }
 {
     let mut frames = Vec::new(alloc);
     let values = ThreadValues {
@@ -177,7 +177,7 @@ fn wake_focus<'k>(
     focus: &Focus<'k>,
     left: &mut u64,
 ) -> Result<Focus<'k>, Halt>
-    ensures { (words : List ℤ) → IsMetered waking left.old left.new result (woken (plain_kernel kernel.now) uses.now words copies.now (focused focus.now)) }
+    ensures { (words : List ℤ) → IsMetered waking_kind left.old left.new result (woken (plain_kernel kernel.now) uses.now words copies.now (focused focus.now)) }
 {
     match focus {
         Focus::Resting => Ok(Focus::Done),
@@ -234,7 +234,7 @@ fn child_before<'k>(
     first: Thread<'k>,
     rest: Children<'k>,
 ) -> Result<Children<'k>, AllocError>
-    ensures { IfOk result (λ x. threads x ≡ child_of (plain_thread first.entry) (threads rest.entry)) }
+    ensures { IfOk result (λ x. threads x ≡ child_of (plain_running_thread first.entry) (threads rest.entry)) }
 {
     let rest = Box::new(alloc, rest)?;
     Ok(Children::Child { first, rest })

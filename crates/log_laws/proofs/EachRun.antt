@@ -2,11 +2,11 @@
 use Rattle.std.proofs.Common.{ℕ, ◌<◌, ◌≤◌, ◌≡◌, ◌⊎◌, inl, inr, Some, List, [], ◌∷◌, ◌++◌, map, length, refl, sym, ap, subst, ◌∙◌, append_assoc, append-nil, arith}
 use Rattle.forec_kernel.specs.declared.shape.VarCopy.{VarCopy}
 use Rattle.forec_kernel.specs.declared.shape.Outcome.TheVariants as outcome
-use Rattle.forec_kernel.specs.Composed.{TickInput, Tells, next_state, state_after, tick_jobs, tick_job}
+use Rattle.forec_kernel.specs.Composed.{TickInput, MeansReply, next_state, state_after, tick_jobs, tick_job}
 use Rattle.forec_kernel.specs.Engine.{Job, Start, Wake, Reply, WasPaused, WasEnded, WasTrapped, WasOver, Exchange, Output, Nothing, last_reply, AllReply}
 use Rattle.forec_kernel.specs.Shapes.{PlainKernel}
 use Rattle.forec_kernel.specs.Solo.{Solo, kernel_engine, KernelAlone}
-use Rattle.forec_kernel.specs.Ticks.{State, Fresh, Tick, tick}
+use Rattle.forec_kernel.specs.Ticks.{TickState, Fresh, Tick, tick}
 use Rattle.forec_kernel.specs.WellFormed.{WellFormed}
 use Rattle.forec_kernel.proofs.SoloTotal.{solo_total}
 use Rattle.forec_kernel.proofs.Distinct.{branches_apart}
@@ -48,12 +48,12 @@ paused_last (o ∷ p ∷ os) (l ∷ ls) copies u h e =
     let r = paused_last (p ∷ os) ls copies u h.1 e in
     record { front = l ∷ r.front; last = r.last; copies = r.copies; units = r.units; is = ap (λ x. l ∷ x) r.is; paused = r.paused }
 
-pause_at : (k : PlainKernel) (s : State) (old : List TickInput) (t turn : TickInput) (more : List TickInput) → AllButLastPause k s ((old ++ t ∷ []) ++ turn ∷ more) → (tick k t.budget (state_after k s old) t.row).outcome ≡ outcome.Paused
+pause_at : (k : PlainKernel) (s : TickState) (old : List TickInput) (t turn : TickInput) (more : List TickInput) → AllButLastPause k s ((old ++ t ∷ []) ++ turn ∷ more) → (tick k t.budget (state_after k s old) t.row).outcome ≡ outcome.Paused
 pause_at k s [] t turn more h = h.0
 pause_at k s (x ∷ []) t turn more h = pause_at k (next_state k s x) [] t turn more h.1
 pause_at k s (x ∷ y ∷ old) t turn more h = pause_at k (next_state k s x) (y ∷ old) t turn more h.1
 
-paused_reply : (k : PlainKernel) (T : Tick) (r : Reply) → Tells k T r → T.outcome ≡ outcome.Paused → (copies : List VarCopy) × (u : ℕ) × (r ≡ WasPaused copies u)
+paused_reply : (k : PlainKernel) (T : Tick) (r : Reply) → MeansReply k T r → T.outcome ≡ outcome.Paused → (copies : List VarCopy) × (u : ℕ) × (r ≡ WasPaused copies u)
 paused_reply k T (WasPaused copies u) h p = (copies, u, refl)
 paused_reply k T (WasEnded copies u) h p = let f = sym p ∙ h.0 in cc
 paused_reply k T (WasTrapped place trap u) h p = let f = sym p ∙ h in cc

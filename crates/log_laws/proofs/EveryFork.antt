@@ -7,7 +7,7 @@ use Rattle.forec_kernel.specs.Reached.{AtRest, Inside, Reached, none, begun, ste
 use Rattle.thread_code.specs.Plain.{PlainCode}
 use Rattle.thread_code.specs.Valid.{IsValidCode, costs}
 use Rattle.thread_code.specs.Machine.{Machine, On, Waits, Merges, Failing, Paused, Ended, Trapped, Exceeded, Stuck, step, join}
-use Rattle.thread_code.specs.Alone.{block_of, view_of, units_of, code_engine, CodeAlone}
+use Rattle.thread_code.specs.Alone.{block_of, view_of, machine_units, code_engine, CodeAlone}
 use Rattle.thread_code.proofs.Unstuck.{Good, reached_good}
 use Rattle.exchange_meaning.proofs.TellingLemmas.{equal_number}
 use Rattle.tick_jobs.proofs.AtEachFork.{Lively, EndsPaused, WakesPaused, Fine, step_fine, join_fine}
@@ -128,8 +128,8 @@ module _ (c : PlainCode) (valid : IsValidCode c) (t : ℕ) (lt : t < length c.th
   seeds_once x y e = cc
 
   -- what is known at a fork
-  at_fork : (a n : ℕ) (past : List Answered) (m : Machine) (seeds : List Seed) → view_of m ≡ AtFork seeds → units_of m ≤ a → Good c t m → Fine c valid t n past m →
-      ForkKnown (most a) n past (map (written (a - units_of m)) seeds)
+  at_fork : (a n : ℕ) (past : List Answered) (m : Machine) (seeds : List Seed) → view_of m ≡ AtFork seeds → machine_units m ≤ a → Good c t m → Fine c valid t n past m →
+      ForkKnown (most a) n past (map (written (a - machine_units m)) seeds)
   at_fork a n past (On p fs o u) seeds v le g f = cc
   at_fork a n past (Merges m o u) seeds v le g f = cc
   at_fork a n past (Failing place trap u) seeds v le g f = cc
@@ -190,7 +190,7 @@ module _ (c : PlainCode) (valid : IsValidCode c) (t : ℕ) (lt : t < length c.th
       let h' = subst (At a n past) reaches.lands (run_at a n reaches.count past m h) in
       event_at a n past rss m' h' reaches.within (fork m') (f m' h' reaches.within) o r at
 
-  known_here : (a n : ℕ) (past : List Answered) (m : Machine) → At a n past m → units_of m ≤ a → (seeds : List Seed) → view_of m ≡ AtFork seeds → ForkKnown (most a) n past (map (written (a - units_of m)) seeds)
+  known_here : (a n : ℕ) (past : List Answered) (m : Machine) → At a n past m → machine_units m ≤ a → (seeds : List Seed) → view_of m ≡ AtFork seeds → ForkKnown (most a) n past (map (written (a - machine_units m)) seeds)
   known_here a n past m h le seeds v = at_fork a n past m seeds v le (reached_good c valid t lt h.exchanges (Inside h.job h.before m) h.reached) h.fine
 
   serves_at : (a n : ℕ) (past : List Answered) (rss : List (List Reply)) (m : Machine) → At a n past m → (o : Output) (r : Rest Machine) → Serves e a rss m o r → Served a n past rss o r
@@ -200,19 +200,19 @@ module _ (c : PlainCode) (valid : IsValidCode c) (t : ℕ) (lt : t < length c.th
         rests = nothing_rests _;
       })) o r s
     where
-      by : (m' : Machine) → At a n past m' → units_of m' ≤ a → (seeds : List Seed) → view_of m' ≡ AtFork seeds → (js : List (List Written)) (ws : List Written) →
-          Fork 0 js ws (ends_at (map (written (a - units_of m')) seeds)) → ForkKnown (most a) (n + 0) (past ++ pair_forks js []) ws
+      by : (m' : Machine) → At a n past m' → machine_units m' ≤ a → (seeds : List Seed) → view_of m' ≡ AtFork seeds → (js : List (List Written)) (ws : List Written) →
+          Fork 0 js ws (ends_at (map (written (a - machine_units m')) seeds)) → ForkKnown (most a) (n + 0) (past ++ pair_forks js []) ws
       by m' h' le seeds v [] ws f =
-          let same : map (written (a - units_of m')) seeds ≡ ws = last_one [] ws _ refl (ap (λ (x : Output). x.jobs) f.0) in
+          let same : map (written (a - machine_units m')) seeds ≡ ws = last_one [] ws _ refl (ap (λ (x : Output). x.jobs) f.0) in
           let q : n ≡ n + 0 = omega arith in
           subst (λ ps. ForkKnown (most a) (n + 0) ps ws) (sym (append-nil past)) (subst (λ i. ForkKnown (most a) i past ws) q (subst (ForkKnown (most a) n past) same (known_here a n past m' h' le seeds v)))
       by m' h' le seeds v (j ∷ js) ws f = let bad = f.1 in cc
   serves_at a n past (rs ∷ more) m h o r s =
       goes_at a n past (rs ∷ more) m h _ (λ m' h' le seeds v o r x. by_count m' seeds (length rs == length seeds) refl o r
-      (λ count o' y. serves_at a (n + 1) (past ++ pair_up (map (written (a - units_of m')) seeds) rs) more (join c t rs m') (joined_at m' h' le seeds v count) o' r y) x) o r s
+      (λ count o' y. serves_at a (n + 1) (past ++ pair_up (map (written (a - machine_units m')) seeds) rs) more (join c t rs m') (joined_at m' h' le seeds v count) o' r y) x) o r s
     where
       joined_at : (m' : Machine) → At a n past m' → e.units m' ≤ a → (seeds : List Seed) → e.view m' ≡ AtFork seeds → length rs ≡ length seeds →
-          At a (n + 1) (past ++ pair_up (map (written (a - units_of m')) seeds) rs) (join c t rs m')
+          At a (n + 1) (past ++ pair_up (map (written (a - machine_units m')) seeds) rs) (join c t rs m')
       joined_at m' h' le seeds v count =
           record {
             exchanges = h'.exchanges;
@@ -220,15 +220,15 @@ module _ (c : PlainCode) (valid : IsValidCode c) (t : ℕ) (lt : t < length c.th
             before = h'.before ++ rs ∷ [];
             reached = joined h'.exchanges h'.job h'.before rs seeds m' h'.reached v (omega (arith, le, h'.allowance)) count;
             allowance = h'.allowance;
-            fine = join_fine c valid t n past (a - units_of m') rs m' seeds v count h'.fine;
+            fine = join_fine c valid t n past (a - machine_units m') rs m' seeds v count h'.fine;
           }
 
       by_count : (m' : Machine) (seeds : List Seed) (test : Bool) → (length rs == length seeds) ≡ test → (o : Output) (r : Rest Machine) →
-          (length rs ≡ length seeds → (o' : Output) → Serves e a more (join c t rs m') o' r → Served a (n + 1) (past ++ pair_up (map (written (a - units_of m')) seeds) rs) more o' r) →
+          (length rs ≡ length seeds → (o' : Output) → Serves e a more (join c t rs m') o' r → Served a (n + 1) (past ++ pair_up (map (written (a - machine_units m')) seeds) rs) more o' r) →
           IfElse test ((o' : Output) × Serves e a more (join c t rs m') o' r × (o ≡ first_jobs (map (written (a - e.units m')) seeds) o'))
           ((o ≡ ends_at (map (written (a - e.units m')) seeds)) × (r ≡ Nothing)) → Served a n past (rs ∷ more) o r
       by_count m' seeds true q o r go x =
-          let ws0 = map (written (a - units_of m')) seeds in
+          let ws0 = map (written (a - machine_units m')) seeds in
           let rest = go (equal_number (length rs) (length seeds) q) x.0 x.1 in
           subst (λ y. Served a n past (rs ∷ more) y r) (sym x.2) (record {
             known = λ js ws f. deeper ws0 x.0 js ws f rest.known;

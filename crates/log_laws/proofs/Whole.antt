@@ -4,7 +4,7 @@ use Rattle.forec_tree.specs.Terms as tree
 use Rattle.text_kernel.specs.Kernels.{kernel_of}
 use Rattle.log_ranges.specs.Places.{KernelPlaces}
 use Rattle.text_places.proofs.Whole.{spelled_programs_have_places}
-use Rattle.text_verdict.specs.Judging.{most_bytes, most_levels, Verdict, Accepts, Refuses, OnUnbroken, beyond, accepted, OnProgram, broken, unbroken, spelled, stuck, too_deep, Judged, too_long, stops, too_many, lexed}
+use Rattle.text_verdict.specs.Judging.{most_text_bytes, most_levels, Verdict, Accepts, Refuses, OnUnbroken, beyond, accepted, OnProgram, broken, unbroken, spelled, stuck, too_deep, Judged, too_long, stops, too_many, lexed}
 use Rattle.log_laws.specs.Laws.{AcceptedTextsHavePlaces}
 
 abbrev Told : Verdict → Type 0
@@ -19,7 +19,7 @@ on_program : (program : tree.Text) (names : List (List ℕ)) (v : Verdict) → K
 on_program program names v h (broken place rule least) = tt
 on_program program names v h (unbroken f u) = on_unbroken program names v h u
 
-few_bytes : (n : ℕ) → n ≤ most_bytes → suc n < 2 ^ 32
+few_bytes : (n : ℕ) → n ≤ most_text_bytes → suc n < 2 ^ 32
 few_bytes n le = omega (arith, le)
 
 on_text : (text : List ℕ) (v : Verdict) → Judged text v → Told v

@@ -10,10 +10,10 @@ use Rattle.forec_kernel.specs.declared.shape.Variable.{Variable}
 use Rattle.forec_kernel.specs.Terms.{Expr, Branch, Stmt, Nop, Set, SetAt, PutAt, Clear, Seq, If, While, Pause, Par, Enter, Return}
 use Rattle.forec_kernel.specs.Shapes.{PlainKernel, PlainThread}
 use Rattle.forec_kernel.specs.Values.{Value, Gives, Raises, setting, index_in}
-use Rattle.forec_kernel.specs.Texts.{Loop, After, Text, Done, Run, Then, Turning, Resting, Fork, Held, Watch, Last, Threads, Thread, some_running, first_trap, uses_of, params_in, put_copy, text_of}
+use Rattle.forec_kernel.specs.Texts.{Loop, After, RunningText, Done, Run, Then, Turning, Resting, Fork, Held, Watch, Last, Threads, Thread, some_running, first_trap, uses_of, params_in, put_copy, text_of}
 use Rattle.forec_kernel.specs.Combining.{Cost, Costs, Fails, join_cost, joined_copies}
-use Rattle.forec_kernel.specs.Steps.{Owner, evaluated, Move, Finished, Halts, Moves, Traps, more_move, move_with, assigned, assigned_at, shared_at, turned, entered, Arguments, Ready, Refused, arguments, forked, statement_move, loop_move, combined, joined, move_before, move_watched, move_last, Path, path_below, place_at, text_move, child_move, thread_move}
-use Rattle.forec_kernel.specs.Ticks.{Going, moved, State, Fresh, After_tick, start_copies, unmarked, with_row, begin, tick}
+use Rattle.forec_kernel.specs.Steps.{Owner, evaluated, Move, Finished, Halts, Moves, Traps, more_move, move_with, assigned, assigned_at, shared_at, turned_loop, entered_abort, Arguments, Ready, Refused, arguments, forked, statement_move, loop_move, combined, joined, move_before, move_watched, move_last, Path, path_below, child_place, text_move, child_move, thread_move}
+use Rattle.forec_kernel.specs.Ticks.{Going, moved, TickState, Fresh, After_tick, start_copies, unmarked, with_row, begin, tick}
 use Rattle.forec_kernel.specs.Solo.{values_in}
 use Rattle.forec_kernel.specs.WellFormed.{WellFormed, blank_thread, count_up}
 use Rattle.forec_kernel.specs.Composed.{TickInput, tick_job}
@@ -94,7 +94,7 @@ module _ (n : ℕ) where
     forked_keeps bs (Ready lists u) = long
     forked_keeps bs (Refused place trap u) = tt
 
-    turned_keeps : (loop : Loop) (left : Option ℕ) → Keeps (turned loop left words copies)
+    turned_keeps : (loop : Loop) (left : Option ℕ) → Keeps (turned_loop loop left words copies)
     turned_keeps loop None = long
     turned_keeps loop (Some zero) = tt
     turned_keeps loop (Some (suc m)) = long
@@ -122,15 +122,15 @@ module _ (n : ℕ) where
         forked_keeps bs (arguments (setting o.kernel) (record { words = words; uses = o.uses; copies = copies }) bs)
     statement_keeps (Enter weak false e body) = long
     statement_keeps (Enter weak true e body) =
-        with_keeps (evaluated o words copies e) (λ x. Moves (entered weak e body x) words copies 1) (λ x. long)
+        with_keeps (evaluated o words copies e) (λ x. Moves (entered_abort weak e body x) words copies 1) (λ x. long)
     statement_keeps (Return e) = tt
 
     loop_keeps : (loop : Loop) → Keeps (loop_move o words copies loop)
     loop_keeps loop =
         with_keeps (evaluated o words copies loop.test)
-        (λ x. elim (is_zero x) [ true ↦ Moves Done words copies 1 | false ↦ turned loop loop.left words copies ]) (λ x. after_test (is_zero x))
+        (λ x. elim (is_zero x) [ true ↦ Moves Done words copies 1 | false ↦ turned_loop loop loop.left words copies ]) (λ x. after_test (is_zero x))
       where
-        after_test : (b : Bool) → Keeps (elim b [ true ↦ Moves Done words copies 1 | false ↦ turned loop loop.left words copies ])
+        after_test : (b : Bool) → Keeps (elim b [ true ↦ Moves Done words copies 1 | false ↦ turned_loop loop loop.left words copies ])
         after_test true = long
         after_test false = turned_keeps loop loop.left
 
@@ -160,7 +160,7 @@ module _ (n : ℕ) where
     last_keeps (Moves R words' copies' u) g = g
     last_keeps (Traps place trap u) g = tt
 
-  move_keeps : (k : PlainKernel) (path : Path) (uses : List ℕ) (words : List ℤ) (copies : List VarCopy) → length copies ≡ n → (R : Text) → Keeps (text_move k path uses words copies R)
+  move_keeps : (k : PlainKernel) (path : Path) (uses : List ℕ) (words : List ℤ) (copies : List VarCopy) → length copies ≡ n → (R : RunningText) → Keeps (text_move k path uses words copies R)
   move_keeps k path uses words copies long Done = tt
   move_keeps k path uses words copies long (Run s) = statement_keeps (record { kernel = k; uses = uses }) words copies long s
   move_keeps k path uses words copies long (Then R a) =
@@ -173,7 +173,7 @@ module _ (n : ℕ) where
           Keeps
           (elim b [
             | true ↦
-                let s = child_move k (path_below path cs) (place_at path cs) cs in Moves (Fork s.children) words copies s.units
+                let s = child_move k (path_below path cs) (child_place path cs) cs in Moves (Fork s.children) words copies s.units
             | false ↦ joined (record { kernel = k; uses = uses }) words copies cs (first_trap cs)
           ])
       pick true = long
@@ -189,7 +189,7 @@ module _ (n : ℕ) where
 abbrev Long : PlainKernel → Thread → Type 0
 Long k t = length t.copies ≡ length k.shape.variables
 
-abbrev pub StateLong : PlainKernel → State → Type 0
+abbrev pub StateLong : PlainKernel → TickState → Type 0
 StateLong k = StateHas (Long k)
 
 module _ (k : PlainKernel) where
@@ -204,11 +204,11 @@ module _ (k : PlainKernel) where
       moved_long g (thread_move k [] g.thread) h
       (move_keeps (length k.shape.variables) k [] (uses_of k g.thread.number) g.thread.words g.thread.copies h g.thread.text)
 
-  begin_long : (old : State) (row : List ℤ) → StateLong k old → Long k (begin k old row).thread
+  begin_long : (old : TickState) (row : List ℤ) → StateLong k old → Long k (begin k old row).thread
   begin_long Fresh row h = row_length (uses_of k 0) k.shape.inputs row (start_copies k.shape.variables) ∙ start_length k.shape.variables
   begin_long (After_tick t) row h = row_length (uses_of k 0) k.shape.inputs row (unmarked t.copies) ∙ unmarked_length t.copies ∙ h
 
-  pub tick_long : (budget : ℕ) (old : State) (row : List ℤ) → StateLong k old → StateLong k (tick k budget old row).state
+  pub tick_long : (budget : ℕ) (old : TickState) (row : List ℤ) → StateLong k old → StateLong k (tick k budget old row).state
   tick_long budget old row h = tick_keeps k (Long k) step_long budget old row h (begin_long old row h)
 
   -- ---- the job of a tick
@@ -221,7 +221,7 @@ module _ (k : PlainKernel) where
     all_used : length (uses_of k 0) ≡ length k.shape.variables
     all_used = ap length fine.root.uses ∙ count_length 0 (length k.shape.variables)
 
-    pub job_long : (old : State) (turn : TickInput) → StateLong k old → FitsThread k.shape 0 (tick_job k old turn)
+    pub job_long : (old : TickState) (turn : TickInput) → StateLong k old → FitsThread k.shape 0 (tick_job k old turn)
     job_long Fresh turn h =
         let cs = with_row (uses_of k 0) k.shape.inputs turn.row (start_copies k.shape.variables) in
         (sym fine.root.params ∙ params_at k.shape.threads, values_length cs ∙ begin_long Fresh turn.row tt ∙ sym all_used)

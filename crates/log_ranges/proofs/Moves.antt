@@ -10,9 +10,9 @@ use Rattle.forec_kernel.specs.declared.shape.VarCopy.{VarCopy}
 use Rattle.forec_kernel.specs.Terms.{Expr, Branch, Stmt, Nop, Set, SetAt, PutAt, Clear, Seq, If, While, Pause, Par, Enter, Return, Stmts, no_stmts, more_stmts}
 use Rattle.forec_kernel.specs.Shapes.{PlainKernel}
 use Rattle.forec_kernel.specs.Values.{Value, Gives, Raises, Values, AllGive, OneRaises, Setting, setting, Sight, vals, index_in, more_units, call}
-use Rattle.forec_kernel.specs.Texts.{Loop, After, Go_on, Again, Status, Running, Paused, Ended, Gone, Trapped, Text, Done, Run, Then, Turning, Resting, Fork, Held, Watch, Last, Threads, no_threads, child, child_of, text_of, texts_of, then_list, after_text, some_running, all_over, first_trap, ended_are_gone, uses_of, body_of, handed_down}
-use Rattle.forec_kernel.specs.Combining.{Share, Joint, fold_calls, variable_calls, combine_of, variable_of, part_of, calls_of, calls_from, calls_at, count_threads, in_order, Cost, Costs, Fails, more_cost, cost_of, join_cost}
-use Rattle.forec_kernel.specs.Steps.{Path, Owner, evaluated, Move, Finished, Halts, Moves, Traps, more_move, move_with, assigned, assigned_at, shared_at, turned, entered, Arguments, Ready, Refused, one_more_list, arguments_then, arguments, started, forked, statement_move, loop_move, combined, joined, move_before, move_watched, move_last, thread_after, place_at, path_below, text_move, child_move, Woken, Wakes, Stays, more_woken, woken_in, woken_with, refilled, watched_on, text_if, status_of, woken, woken_children}
+use Rattle.forec_kernel.specs.Texts.{Loop, After, Go_on, Again, Status, Running, Paused, Ended, Gone, Trapped, RunningText, Done, Run, Then, Turning, Resting, Fork, Held, Watch, Last, Threads, no_threads, child, child_of, text_of, texts_of, then_list, after_text, some_running, all_over, first_trap, ended_are_gone, uses_of, body_of, handed_down}
+use Rattle.forec_kernel.specs.Combining.{Share, Joint, fold_calls, variable_calls, combine_of, variable_of, part_of, joint_calls, calls_from, calls_at, count_threads, calls_in_order, Cost, Costs, Fails, more_cost, cost_of, join_cost}
+use Rattle.forec_kernel.specs.Steps.{Path, Owner, evaluated, Move, Finished, Halts, Moves, Traps, more_move, move_with, assigned, assigned_at, shared_at, turned_loop, entered_abort, Arguments, Ready, Refused, one_more_list, arguments_then, arguments, started, forked, statement_move, loop_move, combined, joined, move_before, move_watched, move_last, thread_after, child_place, path_below, text_move, child_move, Woken, Wakes, Stays, more_woken, woken_in, woken_with, refilled, watched_on, text_if, status_of, woken, woken_children}
 use Rattle.value_ranges.proofs.Lists.{all_get, all_append}
 use Rattle.log_ranges.specs.Places.{IsPlace, ExprPlaces, BranchesPlaces, StmtPlaces, StmtsPlaces, KernelPlaces}
 use Rattle.log_ranges.proofs.Values.{ValuePlaces, ValuesPlaces, more_places, CallsPlaces, val_places, vals_places, kernel_places}
@@ -34,7 +34,7 @@ StatusPlace Gone = Unit {0}
 StatusPlace (Trapped place trap) = IsPlace place
 
 abbrev mutual
-  pub TextPlaces : Text → Type 0
+  pub TextPlaces : RunningText → Type 0
   TextPlaces Done = Unit {0}
   TextPlaces (Run s) = StmtPlaces s
   TextPlaces (Then R a) = TextPlaces R × AfterPlaces a
@@ -49,7 +49,7 @@ abbrev mutual
   ThreadsPlaces no_threads = Unit {0}
   ThreadsPlaces (child t R w c st rest) = TextPlaces R × StatusPlace st × ThreadsPlaces rest
 
-then_list_places : (R : Text) (rest : Stmts) → TextPlaces R → StmtsPlaces rest → TextPlaces (then_list R rest)
+then_list_places : (R : RunningText) (rest : Stmts) → TextPlaces R → StmtsPlaces rest → TextPlaces (then_list R rest)
 then_list_places R no_stmts h g = h
 then_list_places R (more_stmts s rest) h g = (h, g)
 
@@ -76,7 +76,7 @@ after_places : (a : After) → AfterPlaces a → TextPlaces (after_text a)
 after_places (Go_on list) h = texts_places list h
 after_places (Again loop) h = h
 
-gone_status : (st : Status) → StatusPlace st → (rest : Threads) → (t : ℕ) (R : Text) (w : List ℤ) (c : List VarCopy) → TextPlaces R → ThreadsPlaces (ended_are_gone rest) →
+gone_status : (st : Status) → StatusPlace st → (rest : Threads) → (t : ℕ) (R : RunningText) (w : List ℤ) (c : List VarCopy) → TextPlaces R → ThreadsPlaces (ended_are_gone rest) →
     ThreadsPlaces (ended_are_gone (child t R w c st rest))
 gone_status Running h rest t R w c f g = (f, tt, g)
 gone_status Paused h rest t R w c f g = (f, tt, g)
@@ -106,16 +106,16 @@ with_places : (v : Value) (go : ℤ → Move) → ValuePlaces v → ((n : ℤ) �
 with_places (Gives n u) go h g = more_move_places u (go n) (g n)
 with_places (Raises place trap u) go h g = h
 
-chosen_places : (b : Bool) (R S : Text) → TextPlaces R → TextPlaces S → TextPlaces (cond b R S)
+chosen_places : (b : Bool) (R S : RunningText) → TextPlaces R → TextPlaces S → TextPlaces (cond b R S)
 chosen_places true R S h g = h
 chosen_places false R S h g = g
 
-entered_places : (weak : Bool) (e : Expr) (body : Stmt) (n : ℤ) → ExprPlaces e → StmtPlaces body → TextPlaces (entered weak e body n)
+entered_places : (weak : Bool) (e : Expr) (body : Stmt) (n : ℤ) → ExprPlaces e → StmtPlaces body → TextPlaces (entered_abort weak e body n)
 entered_places false e body n h g = chosen_places (is_zero n) (Watch false e (text_of body)) Done (h, text_places body g) tt
 entered_places true e body n h g =
     chosen_places (is_zero n) (Watch true e (text_of body)) (Last (text_of body)) (h, text_places body g) (text_places body g)
 
-turned_places : (loop : Loop) (left : Option ℕ) (words : List ℤ) (copies : List VarCopy) → LoopPlaces loop → MovePlaces (turned loop left words copies)
+turned_places : (loop : Loop) (left : Option ℕ) (words : List ℤ) (copies : List VarCopy) → LoopPlaces loop → MovePlaces (turned_loop loop left words copies)
 turned_places loop None words copies h = (text_places loop.body h.1, h)
 turned_places loop (Some zero) words copies h = h.2
 turned_places loop (Some (suc m)) words copies h = (text_places loop.body h.1, h)
@@ -176,9 +176,9 @@ at_all : (j : ℕ) (css : List (List Joint)) → AllByRecursion JointsPlaces css
 at_all j [] h = tt
 at_all j (cs ∷ css) h = all_append ValuePlaces (calls_from j cs) (calls_at j css) (from_places j cs h.0) (at_all j css h.1)
 
-order_places : (j n : ℕ) (css : List (List Joint)) → AllByRecursion JointsPlaces css → AllValues (in_order j n css)
+order_places : (j n : ℕ) (css : List (List Joint)) → AllByRecursion JointsPlaces css → AllValues (calls_in_order j n css)
 order_places j zero css h = tt
-order_places j (suc n) css h = all_append ValuePlaces (calls_at j css) (in_order (suc j) n css) (at_all j css h) (order_places (suc j) n css h)
+order_places j (suc n) css h = all_append ValuePlaces (calls_at j css) (calls_in_order (suc j) n css) (at_all j css h) (order_places (suc j) n css h)
 
 abbrev CostPlaces : Cost → Type 0
 CostPlaces (Costs u) = Unit {0}
@@ -219,14 +219,14 @@ module _ (k : PlainKernel) (places : KernelPlaces k) where
       fold_places (λ x y. more_units 1 (call k f (x ∷ y ∷ []))) (λ x y. more_places 1 (call k f (x ∷ y ∷ [])) (kernel_places k places f (x ∷ y ∷ [])))
       s.copy.value ss
 
-  all_calls : (cs : Threads) (uses : List ℕ) (copies : List VarCopy) → AllByRecursion JointsPlaces (calls_of k cs uses copies)
+  all_calls : (cs : Threads) (uses : List ℕ) (copies : List VarCopy) → AllByRecursion JointsPlaces (joint_calls k cs uses copies)
   all_calls cs [] copies = tt
   all_calls cs (v ∷ uses) [] = tt
   all_calls cs (v ∷ uses) (c ∷ copies) = (calls_places (variable_of k v).combine (part_of k cs v c.value), all_calls cs uses copies)
 
   join_places : (cs : Threads) (uses : List ℕ) (copies : List VarCopy) → CostPlaces (join_cost k cs uses copies)
   join_places cs uses copies =
-      cost_places (in_order 0 (count_threads cs) (calls_of k cs uses copies)) (order_places 0 (count_threads cs) (calls_of k cs uses copies) (all_calls cs uses copies))
+      cost_places (calls_in_order 0 (count_threads cs) (joint_calls k cs uses copies)) (order_places 0 (count_threads cs) (joint_calls k cs uses copies) (all_calls cs uses copies))
 
   started_places : (uses : List ℕ) (copies : List VarCopy) (bs : List Branch) (lists : List (List ℤ)) →
       ThreadsPlaces (started (record { kernel = k; uses = uses }) copies bs lists)
@@ -281,17 +281,17 @@ module _ (k : PlainKernel) (places : KernelPlaces k) where
         forked_places bs (arguments (setting k) e bs) (arguments_places (setting k) (kernel_places k places) e bs h)
     statement_places (Enter weak false e body) h = (h.0, text_places body h.1)
     statement_places (Enter weak true e body) h =
-        with_places (evaluated o words copies e) (λ n. Moves (entered weak e body n) words copies 1) (evaluated_places e h.0)
+        with_places (evaluated o words copies e) (λ n. Moves (entered_abort weak e body n) words copies 1) (evaluated_places e h.0)
         (λ n. entered_places weak e body n h.0 h.1)
     statement_places (Return e) h = tt
 
     loop_places : (loop : Loop) → LoopPlaces loop → MovePlaces (loop_move o words copies loop)
     loop_places loop h =
         with_places (evaluated o words copies loop.test)
-        (λ n. elim (is_zero n) [ true ↦ Moves Done words copies 1 | false ↦ turned loop loop.left words copies ]) (evaluated_places loop.test h.0)
+        (λ n. elim (is_zero n) [ true ↦ Moves Done words copies 1 | false ↦ turned_loop loop loop.left words copies ]) (evaluated_places loop.test h.0)
         (λ n. after_test (is_zero n))
       where
-        after_test : (b : Bool) → MovePlaces (elim b [ true ↦ Moves Done words copies 1 | false ↦ turned loop loop.left words copies ])
+        after_test : (b : Bool) → MovePlaces (elim b [ true ↦ Moves Done words copies 1 | false ↦ turned_loop loop loop.left words copies ])
         after_test true = tt
         after_test false = turned_places loop loop.left words copies h
 
@@ -332,7 +332,7 @@ module _ (k : PlainKernel) (places : KernelPlaces k) where
 
   -- ---- a step of a text, and of one child
 
-  child_after : (t : ℕ) (R : Text) (w : List ℤ) (c : List VarCopy) (st : Status) (rest : Threads) → ThreadsPlaces (child t R w c st rest) →
+  child_after : (t : ℕ) (R : RunningText) (w : List ℤ) (c : List VarCopy) (st : Status) (rest : Threads) → ThreadsPlaces (child t R w c st rest) →
       (m : Move) → MovePlaces m →
       ThreadsPlaces (child_of (thread_after (record { number = t; text = R; words = w; copies = c; status = st }) m) rest)
   child_after t R w c st rest h Finished g = (h.0, tt, h.2)
@@ -341,7 +341,7 @@ module _ (k : PlainKernel) (places : KernelPlaces k) where
   child_after t R w c st rest h (Traps place trap u) g = (h.0, g, h.2)
 
   mutual
-    pub move_places : (path : Path) (uses : List ℕ) (words : List ℤ) (copies : List VarCopy) (R : Text) → TextPlaces R →
+    pub move_places : (path : Path) (uses : List ℕ) (words : List ℤ) (copies : List VarCopy) (R : RunningText) → TextPlaces R →
         MovePlaces (text_move k path uses words copies R)
     move_places path uses words copies Done h = tt
     move_places path uses words copies (Run s) h = statement_places uses words copies s h
@@ -350,8 +350,8 @@ module _ (k : PlainKernel) (places : KernelPlaces k) where
     move_places path uses words copies (Turning loop) h = loop_places uses words copies loop h
     move_places path uses words copies Resting h = tt
     move_places path uses words copies (Fork cs) h =
-        let s = child_move k (path_below path cs) (place_at path cs) cs in
-        fork_places uses words copies cs s.children s.units h (child_places (path_below path cs) (place_at path cs) cs h) (some_running cs)
+        let s = child_move k (path_below path cs) (child_place path cs) cs in
+        fork_places uses words copies cs s.children s.units h (child_places (path_below path cs) (child_place path cs) cs h) (some_running cs)
     move_places path uses words copies (Held cs) h = tt
     move_places path uses words copies (Watch weak e R) h =
         watched_places uses words copies weak e (text_move k path uses words copies R) h.0 (move_places path uses words copies R h.1)
@@ -374,7 +374,7 @@ module _ (k : PlainKernel) (places : KernelPlaces k) where
   more_woken_places u (Wakes R v) h = h
   more_woken_places u (Stays place trap v) h = h
 
-  woken_in_places : (f : Text → Text) (r : Woken) → ((R : Text) → TextPlaces R → TextPlaces (f R)) → WokenPlaces r → WokenPlaces (woken_in f r)
+  woken_in_places : (f : RunningText → RunningText) (r : Woken) → ((R : RunningText) → TextPlaces R → TextPlaces (f R)) → WokenPlaces r → WokenPlaces (woken_in f r)
   woken_in_places f (Wakes R u) g h = g R h
   woken_in_places f (Stays place trap u) g h = h
 
@@ -398,12 +398,12 @@ module _ (k : PlainKernel) (places : KernelPlaces k) where
       (woken_in_places Last r (λ R f. f) g)
 
   -- what a text becomes, or stays, and how its thread stands
-  pub text_if_places : (R : Text) (r : Woken) → TextPlaces R → WokenPlaces r → TextPlaces (text_if R r) × StatusPlace (status_of r)
+  pub text_if_places : (R : RunningText) (r : Woken) → TextPlaces R → WokenPlaces r → TextPlaces (text_if R r) × StatusPlace (status_of r)
   text_if_places R (Wakes R' u) h g = (g, tt)
   text_if_places R (Stays place trap u) h g = (h, g)
 
   mutual
-    pub woken_places : (uses : List ℕ) (words : List ℤ) (copies : List VarCopy) (R : Text) → TextPlaces R → WokenPlaces (woken k uses words copies R)
+    pub woken_places : (uses : List ℕ) (words : List ℤ) (copies : List VarCopy) (R : RunningText) → TextPlaces R → WokenPlaces (woken k uses words copies R)
     woken_places uses words copies Done h = tt
     woken_places uses words copies (Run s) h = h
     woken_places uses words copies (Then R a) h =

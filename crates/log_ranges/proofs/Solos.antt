@@ -4,11 +4,11 @@ use Rattle.std.specs.List.{AllByRecursion}
 use Rattle.forec_base.specs.declared.limits.TheConstants.{MAX_BUDGET}
 use Rattle.forec_kernel.specs.declared.shape.VarCopy.{VarCopy}
 use Rattle.forec_kernel.specs.Shapes.{PlainKernel}
-use Rattle.forec_kernel.specs.Texts.{Status, Running, Paused, Ended, Gone, Trapped, Text, Done, Run, Then, Turning, Resting, Fork, Held, Watch, Last, Threads, no_threads, child, Thread, some_running, uses_of, words_of, params_of, body_of}
-use Rattle.forec_kernel.specs.Steps.{Move, Finished, Halts, Moves, Traps, units_of, thread_after, thread_move}
+use Rattle.forec_kernel.specs.Texts.{Status, Running, Paused, Ended, Gone, Trapped, RunningText, Done, Run, Then, Turning, Resting, Fork, Held, Watch, Last, Threads, no_threads, child, Thread, some_running, uses_of, words_of, params_of, body_of}
+use Rattle.forec_kernel.specs.Steps.{Move, Finished, Halts, Moves, Traps, move_units, thread_after, thread_move}
 use Rattle.forec_kernel.specs.Erased.{erased, erased_threads}
 use Rattle.forec_kernel.specs.Engine.{Job, Start, Wake, Reply, WasPaused, WasEnded, WasTrapped, WasOver, Seed, Starts, Wakes, Written, written, allowance_of, View, Going, AtFork, Pausing, Ending, Trapping, Exceeding, Engine, run_for, Rest, Asleep, Nothing, Exchange, Output, first_jobs, ends_at, AtEvent, RunsOn, over, event, IfElse, Serves, Begins, Alone, Answered, pair_up, pair_forks, pair_all, Allowed}
-use Rattle.forec_kernel.specs.Solo.{fork_of, with_fork, Solo, At, TooLong, unmarked_copies, values_in, started_thread, own_text, waking, solo_wake, seed_of, seeds_for, view_at, solo_view, rests, solo_step, child_replied, all_replied, all_units, some_reply_over, joined_own, solo_join, kernel_engine, KernelAlone}
+use Rattle.forec_kernel.specs.Solo.{fork_of, with_fork, Solo, At, TooLong, unmarked_copies, values_in, started_thread, own_text, waking_thread, solo_wake, seed_of, seeds_for, view_at, solo_view, rests, solo_step, child_replied, all_replied, all_units, some_reply_over, joined_own, solo_join, kernel_engine, KernelAlone}
 use Rattle.forec_kernel.proofs.Serving.{allowed_first, allowed_then}
 use Rattle.value_ranges.specs.Words.{AreWords, KernelWords}
 use Rattle.value_ranges.proofs.Lists.{all_take}
@@ -44,7 +44,7 @@ values_fits (c ∷ copies) h = (h.0, values_fits copies h.1)
 
 -- ---- texts
 
-abbrev TextGood : Text → Type 0
+abbrev TextGood : RunningText → Type 0
 TextGood R = TextFits R × TextPlaces R
 
 abbrev ThreadsGood : Threads → Type 0
@@ -60,7 +60,7 @@ erased_children (child t R w c Gone rest) h = let g = erased_children rest (h.0.
 erased_children (child t R w c (Trapped place trap) rest) h =
     let g = erased_children rest (h.0.3, h.1.2) in ((tt, tt, tt, g.0), (tt, h.1.1, g.1))
 
-erased_good : (R : Text) → TextGood R → TextGood (erased R)
+erased_good : (R : RunningText) → TextGood R → TextGood (erased R)
 erased_good Done h = h
 erased_good (Run s) h = h
 erased_good (Then R a) h = let g = erased_good R (h.0.0, h.1.0) in ((g.0, h.0.1), (g.1, h.1.1))
@@ -75,7 +75,7 @@ abbrev ForkGood : Option Threads → Type 0
 ForkGood None = Unit {0}
 ForkGood (Some cs) = ThreadsGood cs
 
-fork_good : (R : Text) → TextGood R → ForkGood (fork_of R)
+fork_good : (R : RunningText) → TextGood R → ForkGood (fork_of R)
 fork_good Done h = tt
 fork_good (Run s) h = tt
 fork_good (Then R a) h = fork_good R (h.0.0, h.1.0)
@@ -90,7 +90,7 @@ fork_good (Held cs) h = tt
 fork_good (Watch weak e R) h = fork_good R (h.0.1, h.1.1)
 fork_good (Last R) h = fork_good R h
 
-with_good : (ds : Threads) → ThreadsGood ds → (R : Text) → TextGood R → TextGood (with_fork ds R)
+with_good : (ds : Threads) → ThreadsGood ds → (R : RunningText) → TextGood R → TextGood (with_fork ds R)
 with_good ds g Done h = h
 with_good ds g (Run s) h = h
 with_good ds g (Then R a) h = let f = with_good ds g R (h.0.0, h.1.0) in ((f.0, h.0.1), (f.1, h.1.1))
@@ -176,7 +176,7 @@ module _ (k : PlainKernel) (numbers : KernelWords k) (places : KernelPlaces k) w
       let copies = unmarked_copies values in
       let c = unmarked_fits values h in
       let own = erased_good t.text g.text in
-      let r = waking k values (own_text t) in
+      let r = waking_thread k values (own_text t) in
       let place = text_if_places k places (erased t.text) r own.1 (woken_places k places (uses_of k t.number) t.words copies (erased t.text) own.1) in
       record {
         text = (text_if_fits (erased t.text) r own.0 (woken_fits k (uses_of k t.number) t.words copies (erased t.text) c own.0), place.0);
@@ -212,7 +212,7 @@ module _ (k : PlainKernel) (numbers : KernelWords k) (places : KernelPlaces k) w
       (move_places k places [] (uses_of k t.number) t.words t.copies t.text g.text.1))
     where
       by_rest : (b : Bool) (m : Move) → Good (thread_after t m) →
-          SoloGood (elim b [ true ↦ At t u w | false ↦ At (thread_after t m) (u + units_of m) false ])
+          SoloGood (elim b [ true ↦ At t u w | false ↦ At (thread_after t m) (u + move_units m) false ])
       by_rest true m h = g
       by_rest false m h = h
   step_good (TooLong u) g = tt

@@ -6,7 +6,7 @@ use Rattle.forec_kernel.specs.declared.shape.Variable.{Variable}
 use Rattle.forec_kernel.specs.Shapes.{PlainKernel}
 use Rattle.forec_kernel.specs.Texts.{uses_of, words_of, body_of}
 use Rattle.forec_kernel.specs.Steps.{Move, Finished, Halts, Moves, Traps, thread_move, woken}
-use Rattle.forec_kernel.specs.Ticks.{Going, moved, State, Fresh, After_tick, start_copies, unmarked, with_row, begin, tick}
+use Rattle.forec_kernel.specs.Ticks.{Going, moved, TickState, Fresh, After_tick, start_copies, unmarked, with_row, begin, tick}
 use Rattle.forec_kernel.specs.Composed.{TickInput, tick_job}
 use Rattle.exchange_meaning.specs.OfShape.{HasJobNumbers}
 use Rattle.value_ranges.specs.Words.{AreWords, KernelWords}
@@ -33,7 +33,7 @@ row_fits uses (v ∷ vs) [] copies h c = c
 row_fits uses (v ∷ vs) (n ∷ ns) copies h c =
     let x : VarCopy = record { value = n; modified = false } in row_fits uses vs ns _ h.1 (put_fits uses copies v x c h.0)
 
-abbrev pub StateFits : State → Type 0
+abbrev pub StateFits : TickState → Type 0
 StateFits = StateHas ThreadFits
 
 module _ (k : PlainKernel) (numbers : KernelWords k) where
@@ -48,11 +48,11 @@ module _ (k : PlainKernel) (numbers : KernelWords k) where
       moved_fits g (thread_move k [] g.thread) h
       (move_fits k numbers [] (uses_of k g.thread.number) g.thread.words g.thread.copies g.thread.text h.words h.copies h.text)
 
-  copies_fit : (old : State) (row : List ℤ) → StateFits old → AreWords row → CopiesFit (begin k old row).thread.copies
+  copies_fit : (old : TickState) (row : List ℤ) → StateFits old → AreWords row → CopiesFit (begin k old row).thread.copies
   copies_fit Fresh row h r = row_fits (uses_of k 0) k.shape.inputs row (start_copies k.shape.variables) r (starts_fit k.shape.variables numbers.starts)
   copies_fit (After_tick t) row h r = row_fits (uses_of k 0) k.shape.inputs row (unmarked t.copies) r (unmarked_fit t.copies h.copies)
 
-  begin_fits : (old : State) (row : List ℤ) → StateFits old → AreWords row → ThreadFits (begin k old row).thread
+  begin_fits : (old : TickState) (row : List ℤ) → StateFits old → AreWords row → ThreadFits (begin k old row).thread
   begin_fits Fresh row h r =
       record { text = text_fits (body_of k 0) (body_fits k numbers 0); words = fresh_fits [] (words_of k 0) tt; copies = copies_fit Fresh row h r }
   begin_fits (After_tick t) row h r =
@@ -66,9 +66,9 @@ module _ (k : PlainKernel) (numbers : KernelWords k) where
         copies = c;
       }
 
-  pub tick_fits : (budget : ℕ) (old : State) (row : List ℤ) → StateFits old → AreWords row → StateFits (tick k budget old row).state
+  pub tick_fits : (budget : ℕ) (old : TickState) (row : List ℤ) → StateFits old → AreWords row → StateFits (tick k budget old row).state
   tick_fits budget old row h r = tick_keeps k ThreadFits step_fits budget old row h (begin_fits old row h r)
 
-  pub job_numbers : (old : State) (turn : TickInput) → StateFits old → TurnFits turn → HasJobNumbers (tick_job k old turn)
+  pub job_numbers : (old : TickState) (turn : TickInput) → StateFits old → TurnFits turn → HasJobNumbers (tick_job k old turn)
   job_numbers Fresh turn h f = (tt, values_fits _ (copies_fit Fresh turn.row h f.row), f.budget)
   job_numbers (After_tick t) turn h f = (values_fits _ (copies_fit (After_tick t) turn.row h f.row), f.budget)

@@ -5,9 +5,9 @@ use Rattle.forec_kernel.specs.Shapes.{PlainKernel}
 use Rattle.forec_kernel.specs.Size.{text_size}
 use Rattle.forec_kernel.specs.Steps.{thread_move}
 use Rattle.forec_kernel.specs.Texts.{Thread, uses_of}
-use Rattle.forec_kernel.specs.Ticks.{Going, is_stopped, moved, State, Fresh, After_tick, begin, outcome_of, Tick, free_steps, finished, tick, values_of}
+use Rattle.forec_kernel.specs.Ticks.{Going, is_stopped, moved, TickState, Fresh, After_tick, begin, outcome_of, Tick, free_steps, finished, tick, values_of}
 
-abbrev pub StateHas : (Thread → Type 0) → State → Type 0
+abbrev pub StateHas : (Thread → Type 0) → TickState → Type 0
 StateHas P Fresh = Unit {0}
 StateHas P (After_tick t) = P t
 
@@ -32,7 +32,7 @@ module _ (k : PlainKernel) (P : Thread → Type 0) (step : (g : Going) → P g.t
   finished_has stop (suc left) g h =
       free_has stop (finished k stop left) (λ g' h'. finished_has stop left g' h') (suc (text_size g.thread.text)) g h
 
-  pub tick_keeps : (budget : ℕ) (old : State) (row : List ℤ) → StateHas P old → P (begin k old row).thread → StateHas P (tick k budget old row).state
+  pub tick_keeps : (budget : ℕ) (old : TickState) (row : List ℤ) → StateHas P old → P (begin k old row).thread → StateHas P (tick k budget old row).state
   tick_keeps budget old row h now =
       let g = finished k (is_stopped budget) (suc budget) (begin k old row) in
       pick (nat_lt budget g.units) g (finished_has (is_stopped budget) (suc budget) (begin k old row) now)

@@ -9,7 +9,7 @@ use Rattle.forec_kernel.specs.declared.terms.Spot.{Spot}
 use Rattle.forec_kernel.specs.declared.terms.Spot.TheVariants as spot
 use Rattle.forec_kernel.specs.Terms.{Expr, Num, Local, LocalAt, Var, SharedAt, TableAt, Un, Bin, And, Or, Choose, Call, Exprs, no_exprs, more_exprs, Stmt, Nop, Set, SetAt, PutAt, Clear, Seq, If, While, Pause, Par, Enter, Return, Stmts, no_stmts, more_stmts}
 use Rattle.forec_kernel.specs.Shapes.{PlainKernel}
-use Rattle.forec_kernel.specs.Values.{word, copy_of, index_in, Value, Gives, Raises, more_units, value_then, Values, AllGive, OneRaises, one_more, first_then, values_then, Setting, setting, Sight, place_or, divided, at_index, val, vals, Flow, Goes, Returns, Breaks, more_flow, flow_with, flow_then, words_alone, stored_at, stored, turns, flow, flows, returned, fresh_words, function_words, call_within}
+use Rattle.forec_kernel.specs.Values.{word, copy_of, index_in, Value, Gives, Raises, more_units, value_then, Values, AllGive, OneRaises, one_more, first_then, values_then, Setting, setting, Sight, place_or, divided, at_index, val, vals, Flow, Goes, Returns, Breaks, more_flow, flow_with, flow_then, words_alone, stored_at, stored_flow, turns, flow, flows, flow_value, fresh_words, function_words, call_within}
 use Rattle.value_ranges.proofs.Lists.{all_get}
 use Rattle.log_ranges.specs.Places.{IsPlace, DividesAt, ExprPlaces, ExprsPlaces, StmtPlaces, StmtsPlaces, KernelPlaces}
 
@@ -150,7 +150,7 @@ either_flow : (b : Bool) (p q : Flow) → FlowPlaces p → FlowPlaces q → Flow
 either_flow true p q hp hq = hp
 either_flow false p q hp hq = hq
 
-stored_places : (words : List ℤ) (to : Spot) (n : ℤ) → FlowPlaces (stored words to n)
+stored_places : (words : List ℤ) (to : Spot) (n : ℤ) → FlowPlaces (stored_flow words to n)
 stored_places words (spot.Local slot) n = tt
 stored_places words (spot.Variable v) n = tt
 
@@ -180,7 +180,7 @@ module _ (s : Setting) (calls : CallsPlaces s) where
     flow_places : (x : Stmt) → StmtPlaces x → (words : List ℤ) → FlowPlaces (flow s x words)
     flow_places Nop w words = tt
     flow_places (Set to e) w words =
-        flow_with_places (val s (words_alone words) e) (λ n. stored words to n) (alone words e w) (λ n. stored_places words to n)
+        flow_with_places (val s (words_alone words) e) (λ n. stored_flow words to n) (alone words e w) (λ n. stored_places words to n)
     flow_places (SetAt slot n i e place) w words =
         flow_with_places (val s (words_alone words) i)
         (λ k. flow_with (val s (words_alone words) e) (λ x. stored_at words slot (index_in n k) x place)) (alone words i w.0)
@@ -208,7 +208,7 @@ module _ (s : Setting) (calls : CallsPlaces s) where
     flows_places (more_stmts x rest) w words =
         flow_then_places (flow s x words) (λ w'. flows s rest w') (flow_places x w.0 words) (λ w'. flows_places rest w.1 w')
 
-returned_places : (r : Flow) → FlowPlaces r → ValuePlaces (returned r)
+returned_places : (r : Flow) → FlowPlaces r → ValuePlaces (flow_value r)
 returned_places (Goes words u) h = tt
 returned_places (Returns n u) h = tt
 returned_places (Breaks place trap u) h = h

@@ -2,7 +2,7 @@
 use Rattle.std.proofs.Common.{ℕ, ◌<◌, List, [], ◌∷◌, length, sym, subst}
 use Rattle.std.specs.List.{AllByRecursion}
 use Rattle.forec_kernel.specs.Shapes.{PlainKernel}
-use Rattle.forec_kernel.specs.Ticks.{State, Fresh}
+use Rattle.forec_kernel.specs.Ticks.{TickState, Fresh}
 use Rattle.forec_kernel.specs.Solo.{KernelAlone}
 use Rattle.forec_kernel.specs.Composed.{TickInput, tick_jobs, next_state}
 use Rattle.forec_kernel.specs.WellFormed.{WellFormed}
@@ -24,13 +24,13 @@ use Rattle.log_ranges.proofs.Lengths.{StateLong, tick_long, job_long}
 -- ---- the jobs of ticks
 
 module _ (k : PlainKernel) (numbers : KernelWords k) where
-  jobs_numbers : (old : State) (turns : List TickInput) → StateFits old → AllByRecursion TurnFits turns → AllByRecursion HasJobNumbers (tick_jobs k old turns)
+  jobs_numbers : (old : TickState) (turns : List TickInput) → StateFits old → AllByRecursion TurnFits turns → AllByRecursion HasJobNumbers (tick_jobs k old turns)
   jobs_numbers old [] h f = tt
   jobs_numbers old (turn ∷ turns) h f =
       (job_numbers k numbers old turn h f.0, jobs_numbers (next_state k old turn) turns (tick_fits k numbers turn.budget old turn.row h f.0.row) f.1)
 
 module _ (k : PlainKernel) (fine : WellFormed k) where
-  jobs_long : (old : State) (turns : List TickInput) → StateLong k old → AllByRecursion (FitsThread k.shape 0) (tick_jobs k old turns)
+  jobs_long : (old : TickState) (turns : List TickInput) → StateLong k old → AllByRecursion (FitsThread k.shape 0) (tick_jobs k old turns)
   jobs_long old [] h = tt
   jobs_long old (turn ∷ turns) h = (job_long k fine old turn h, jobs_long (next_state k old turn) turns (tick_long k turn.budget old turn.row h))
 

@@ -4,12 +4,12 @@ use Rattle.std.specs.Option.{IfSome}
 use Rattle.std.specs.Io.KnownBytes.{Appends, Consumes}
 use Rattle.forec_kernel.specs.Composed.{TickInput, state_after}
 use Rattle.forec_kernel.specs.Shapes.{PlainKernel}
-use Rattle.forec_kernel.specs.Ticks.{State, Fresh, Tick, tick, goes_on, run_from}
+use Rattle.forec_kernel.specs.Ticks.{TickState, Fresh, Tick, tick, goes_on, run_from}
 use Rattle.trace_rows.specs.Calls.{IfTold}
 use Rattle.trace_rows.specs.Lines.{whole_lines}
-use Rattle.trace_rows.specs.Reader.{Reader, HasLine, Waits, ahead, first_line}
-use Rattle.trace_rows.specs.SourceReads.{IsRead, Reads, none, more, Lacks, Reading, TakesRow}
-use Rattle.trace_rows.specs.Trace.{Row, Trace, End, next_form, onto, row_at, stop}
+use Rattle.trace_rows.specs.Reader.{Reader, HasLine, LacksLine, trace_ahead, first_line}
+use Rattle.trace_rows.specs.SourceReads.{IsRead, ReadsBytes, none, more, Lacks, Reading, TakesRow}
+use Rattle.trace_rows.specs.Trace.{Row, Trace, TraceEnd, next_form, onto, row_at, stop}
 use Rattle.trace_rows.specs.declared.fault.RowFault.{RowFault}
 use Rattle.trace_runs.specs.Calls.{AppendsFront}
 use Rattle.trace_runs.specs.Formats.{opening, format_after}
@@ -33,12 +33,12 @@ rows_then : (turns : List TickInput) (turn : TickInput) → rows_in (turns ++ tu
 rows_then [] turn = refl
 rows_then (t ∷ turns) turn = ap (λ rs. t.row ∷ rs) (rows_then turns turn)
 
-rest_is : (k : PlainKernel) (budget : ℕ) (first : Reader) (x : List ℕ) → turns_rest k budget first x ≡ turns_from k budget Fresh (ahead first x).rows
+rest_is : (k : PlainKernel) (budget : ℕ) (first : Reader) (x : List ℕ) → turns_rest k budget first x ≡ turns_from k budget Fresh (trace_ahead first x).rows
 unfolding turns_rest
 rest_is k budget first x = refl
 
 -- what reads gave is what the source has no more
-pub reads_told : {S : Type 0} (left : S → Option (List ℕ)) (faults : S → ℕ) (down : S → Bool) (May : List ℕ → Type 0) (old : S) {given : List ℕ} {new : S} → Reads left faults down May old given new →
+pub reads_told : {S : Type 0} (left : S → Option (List ℕ)) (faults : S → ℕ) (down : S → Bool) (May : List ℕ → Type 0) (old : S) {given : List ℕ} {new : S} → ReadsBytes left faults down May old given new →
     IfTold (left old) (left new) (λ x y. x ≡ given ++ y)
 reads_told left faults down May old none = told_refl (left old) _ (λ x. refl)
 reads_told left faults down May old (more {given} {piece} {s} {new} rest may read) =
@@ -48,7 +48,7 @@ reads_told left faults down May old (more {given} {piece} {s} {new} rest may rea
 -- ---- the ticks so far
 
 -- the ticks of these rows led to this state, and this is how a further one is told
-pub record Ticked (run : Run) (turns : List TickInput) (s : State) (how : Format) (row : ℕ) : Type 0 where
+pub record Ticked (run : Run) (turns : List TickInput) (s : TickState) (how : Format) (row : ℕ) : Type 0 where
   pub splits : (rows : List Row) → run_from run.kernel run.budget Fresh (rows_in turns ++ rows) ≡ run_from run.kernel run.budget Fresh (rows_in turns) ++ run_from run.kernel run.budget s rows
   pub lines : (rest : List Tick) → lines_from run.format run.budget 1 (run_from run.kernel run.budget Fresh (rows_in turns) ++ rest)
       ≡ lines_from run.format run.budget 1 (run_from run.kernel run.budget Fresh (rows_in turns)) ++ lines_from how run.budget row rest
@@ -57,7 +57,7 @@ pub record Ticked (run : Run) (turns : List TickInput) (s : State) (how : Format
 ticked_start : (run : Run) → Ticked run [] Fresh run.format 1
 ticked_start run = record { splits = λ rows. refl; lines = λ rest. refl; count = refl }
 
-module _ (run : Run) (turns : List TickInput) (s : State) (how : Format) (row : ℕ) (t : Ticked run turns s how row) (values : Row) (on : goes_on (tick run.kernel run.budget s values).outcome ≡ true) where
+module _ (run : Run) (turns : List TickInput) (s : TickState) (how : Format) (row : ℕ) (t : Ticked run turns s how row) (values : Row) (on : goes_on (tick run.kernel run.budget s values).outcome ≡ true) where
   abbrev next : Tick
   next = tick run.kernel run.budget s values
 
@@ -148,9 +148,9 @@ module _ {S : Type 0} (left : S → Option (List ℕ)) (faults : S → ℕ) (dow
     pub sent : List ℕ
     pub appended : Appends h0 h sent
     pub bytes : lines_told run.format run.kernel run.budget turns ≡ sent ++ unsent
-    pub told : IfTold l0 l (λ x y. turns_rest run.kernel run.budget run.first x ≡ turns ++ turns_from run.kernel run.budget pace.state (ahead now y).rows)
+    pub told : IfTold l0 l (λ x y. turns_rest run.kernel run.budget run.first x ≡ turns ++ turns_from run.kernel run.budget pace.state (trace_ahead now y).rows)
     pub given : List ℕ
-    pub reads : Reads left faults down (May run) old given new
+    pub reads : ReadsBytes left faults down (May run) old given new
     pub over : now.ended ≡ false → Over run now pace turns given
 
   pub along_start : (run : Run) (Has : List TickInput → Type 0) (l h : Option (List ℕ)) (unsent : List ℕ) (s : S) → Has [] → unsent ≡ opening run.format → Along run Has run.first l l h h unsent run.format 1 s s
@@ -201,7 +201,7 @@ module _ {S : Type 0} (left : S → Option (List ℕ)) (faults : S → ℕ) (dow
           )
 
       -- what a call reads more
-      pub along_reads : (t : S) (Took : List ℕ → Type 0) → Reading left faults down now.held now.ended s t Took → (given : List ℕ) × Reads left faults down (May run) old given t
+      pub along_reads : (t : S) (Took : List ℕ → Type 0) → Reading left faults down now.held now.ended s t Took → (given : List ℕ) × ReadsBytes left faults down (May run) old given t
       along_reads t Took r = (
         a.given ++ r.1.given,
         reads_then left faults down (May run) (λ came. Lacks (now.held ++ came) now.ended) old s a.given a.reads (λ came lacks. may_come came lacks.0 (a.over lacks.1)) r.1.reads,
@@ -228,8 +228,8 @@ module _ {S : Type 0} (left : S → Option (List ℕ)) (faults : S → ℕ) (dow
             bytes = bytes_more run a.turns a.pace.state how row a.ticked values on a.sent unsent unsent' a.bytes g;
             told = told_both l0 l l' _ _ _ a.told n.trace (λ x y z e gave.
                 e ∙ ap (λ (q : Trace). a.turns ++ turns_from run.kernel run.budget a.pace.state q.rows) gave
-                ∙ ap (λ ts. a.turns ++ ts) (turns_on run.kernel run.budget a.pace.state values (ahead new z).rows on)
-                ∙ sym (append_assoc a.turns (turn ∷ []) (turns_from run.kernel run.budget T.state (ahead new z).rows)));
+                ∙ ap (λ ts. a.turns ++ ts) (turns_on run.kernel run.budget a.pace.state values (trace_ahead new z).rows on)
+                ∙ sym (append_assoc a.turns (turn ∷ []) (turns_from run.kernel run.budget T.state (trace_ahead new z).rows)));
             given = a.given ++ r.1.given;
             reads = reads_then left faults down (May run) (λ came. Lacks (now.held ++ came) now.ended) old s a.given a.reads (λ came lacks. may_come came lacks.0 (a.over lacks.1)) r.1.reads;
             over = λ e.
@@ -239,10 +239,10 @@ module _ {S : Type 0} (left : S → Option (List ℕ)) (faults : S → ℕ) (dow
       -- ---- where it ends
 
       -- the trace stops: these were all ticks
-      pub along_stop : (l' : Option (List ℕ)) (f : Option RowFault) (m : ℕ) → IfTold l l' (λ x y. ahead now x ≡ stop f m) → IfSome l0 (λ x. turns_rest run.kernel run.budget run.first x ≡ a.turns)
+      pub along_stop : (l' : Option (List ℕ)) (f : Option RowFault) (m : ℕ) → IfTold l l' (λ x y. trace_ahead now x ≡ stop f m) → IfSome l0 (λ x. turns_rest run.kernel run.budget run.first x ≡ a.turns)
       along_stop l' f m stops =
           told_some l0 l' (λ x z. turns_rest run.kernel run.budget run.first x ≡ a.turns) _
-          (told_both l0 l l' _ (λ y z. ahead now y ≡ stop f m) _ a.told stops
+          (told_both l0 l l' _ (λ y z. trace_ahead now y ≡ stop f m) _ a.told stops
           (λ x y z e q. e ∙ ap (λ (t : Trace). a.turns ++ turns_from run.kernel run.budget a.pace.state t.rows) q ∙ append-nil a.turns)) (λ x z e. e)
 
       -- the next tick is the last one
@@ -250,31 +250,31 @@ module _ {S : Type 0} (left : S → Option (List ℕ)) (faults : S → ℕ) (dow
           IfSome l0 (λ x. turns_rest run.kernel run.budget run.first x ≡ a.turns ++ turn_of run values ∷ [])
       along_last new l' values n off =
           told_some l0 l' (λ x z. turns_rest run.kernel run.budget run.first x ≡ a.turns ++ turn_of run values ∷ []) _
-          (told_both l0 l l' _ (λ y z. ahead now y ≡ onto (Ok values) (now.given + 1) (ahead new z)) _ a.told n.trace
+          (told_both l0 l l' _ (λ y z. trace_ahead now y ≡ onto (Ok values) (now.given + 1) (trace_ahead new z)) _ a.told n.trace
           (λ x y z e q. e ∙ ap (λ (t : Trace). a.turns ++ turns_from run.kernel run.budget a.pace.state t.rows) q
-          ∙ ap (λ ts. a.turns ++ ts) (turns_stop run.kernel run.budget a.pace.state values (ahead new z).rows off))) (λ x z e. e)
+          ∙ ap (λ ts. a.turns ++ ts) (turns_stop run.kernel run.budget a.pace.state values (trace_ahead new z).rows off))) (λ x z e. e)
 
       -- the next tick is one of them
       pub along_next : (new : Reader) (l' : Option (List ℕ)) (values : Row) → Gave now new l l' values →
           IfSome l0 (λ x. (later : List TickInput) × (turns_rest run.kernel run.budget run.first x ≡ a.turns ++ turn_of run values ∷ later))
       along_next new l' values n =
           told_some l0 l' (λ x z. (later : List TickInput) × (turns_rest run.kernel run.budget run.first x ≡ a.turns ++ turn_of run values ∷ later)) _
-          (told_both l0 l l' _ (λ y z. ahead now y ≡ onto (Ok values) (now.given + 1) (ahead new z)) _ a.told n.trace
+          (told_both l0 l l' _ (λ y z. trace_ahead now y ≡ onto (Ok values) (now.given + 1) (trace_ahead new z)) _ a.told n.trace
           (λ x y z e q. (
-            if goes_on (tick run.kernel run.budget a.pace.state values).outcome then turns_from run.kernel run.budget (tick run.kernel run.budget a.pace.state values).state (ahead new z).rows else [],
+            if goes_on (tick run.kernel run.budget a.pace.state values).outcome then turns_from run.kernel run.budget (tick run.kernel run.budget a.pace.state values).state (trace_ahead new z).rows else [],
             e ∙ ap (λ (t : Trace). a.turns ++ turns_from run.kernel run.budget a.pace.state t.rows) q,
           ))) (λ x z e. e)
 
       -- they are the first
       pub along_first : IfSome l0 (λ x. (later : List TickInput) × (turns_rest run.kernel run.budget run.first x ≡ a.turns ++ later))
-      along_first = told_some l0 l _ _ a.told (λ x y e. (turns_from run.kernel run.budget a.pace.state (ahead now y).rows, e))
+      along_first = told_some l0 l _ _ a.told (λ x y e. (turns_from run.kernel run.budget a.pace.state (trace_ahead now y).rows, e))
 
       -- their lines were sent, as far as the sink has taken them
       pub along_front : (h2 : Option (List ℕ)) → AppendsFront h h2 unsent → AppendsFront h0 h2 (lines_told run.format run.kernel run.budget a.turns)
       along_front h2 b = subst (AppendsFront h0 h2) (sym a.bytes) (front_behind h0 h h2 a.sent unsent a.appended b)
 
       -- the source failed
-      pub along_failed : (new : Reader) (l' : Option (List ℕ)) → left old ≡ l0 → left s ≡ l → Waits now.held new.held now.ended new.ended l l' →
+      pub along_failed : (new : Reader) (l' : Option (List ℕ)) → left old ≡ l0 → left s ≡ l → LacksLine now.held new.held now.ended new.ended l l' →
           IfTold l0 l' (λ x y. (given : List ℕ) × (x ≡ given ++ y) × Runs (turns_come run.kernel run.budget run.first given))
       along_failed new l' is here w =
           let came = w.came.bytes in

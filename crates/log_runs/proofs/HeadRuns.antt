@@ -5,8 +5,8 @@ use Rattle.forec_kernel.specs.Composed.{TickInput}
 use Rattle.forec_kernel.specs.Shapes.{PlainKernel}
 use Rattle.trace_rows.specs.Calls.{IfTold}
 use Rattle.trace_rows.specs.Lines.{whole_lines}
-use Rattle.trace_rows.specs.Reader.{Reader, Waits, first_line}
-use Rattle.trace_rows.specs.SourceReads.{Reads, none, Lacks, Reading, TakesHead}
+use Rattle.trace_rows.specs.Reader.{Reader, LacksLine, first_line}
+use Rattle.trace_rows.specs.SourceReads.{ReadsBytes, none, Lacks, Reading, TakesHead}
 use Rattle.trace_rows.specs.Trace.{header_at}
 use Rattle.trace_runs.specs.Ends.{GoesOn}
 use Rattle.trace_runs.specs.Formats.{opening}
@@ -46,7 +46,7 @@ module _ (Runs : List TickInput → Type 0) (empty : Runs []) (limit : ℕ) (how
   none_given came e = subst Runs (sym (given_none limit k b came e)) empty
 
   -- the source failed before the header had come
-  pub head_unread : (l l' : Option (List ℕ)) → (held : List ℕ) × Waits [] held false false l l' → IfTold l l' Given
+  pub head_unread : (l l' : Option (List ℕ)) → (held : List ℕ) × LacksLine [] held false false l l' → IfTold l l' Given
   head_unread l l' n = told_map l l' _ Given (came_told [] n.0 l l' n.1.came) (λ x y e. (n.0, e, none_given n.0 (no_line n.0 n.1.none)))
 
   -- and behind it
@@ -65,19 +65,19 @@ module _ (Runs : List TickInput → Type 0) (empty : Runs []) (limit : ℕ) (how
       ))
 
   module _ {S : Type 0} (left : S → Option (List ℕ)) (faults : S → ℕ) (down : S → Bool) where
-    before_head : (old s : S) (given : List ℕ) → Reads left faults down (λ came. Lacks ([] ++ came) false) old given s → Reads left faults down May old given s
+    before_head : (old s : S) (given : List ℕ) → ReadsBytes left faults down (λ came. Lacks ([] ++ came) false) old given s → ReadsBytes left faults down May old given s
     before_head old s given r =
         reads_then left faults down May (λ came. Lacks ([] ++ came) false) old old [] none
         (λ came lacks. (([], ap (printed_for limit how k b) (no_line came lacks.0) ∙ printed_none limit how k b), none_given came (no_line came lacks.0))) r
 
     -- no header came
-    pub reads_none : (old s : S) (Took : List ℕ → Type 0) → Reading left faults down [] false old s Took → (given : List ℕ) × Reads left faults down May old given s
+    pub reads_none : (old s : S) (Took : List ℕ → Type 0) → Reading left faults down [] false old s Took → (given : List ℕ) × ReadsBytes left faults down May old given s
     reads_none old s Took r = (r.1.given, before_head old s r.1.given r.1.reads)
 
     -- the header, and the rows after it
     pub reads_all : (inputs : List (List ℕ)) (r : Reader) (old s t : S) → inputs ≡ input_names k → r.limit ≡ limit →
         Reading left faults down [] false old s (λ bytes. TakesHead inputs r.form bytes r.held r.ended) →
-        (given : List ℕ) × Reads left faults down (λ came. GoesOnFrom how k b r came × Runs (turns_come k b r came)) s given t → (given : List ℕ) × Reads left faults down May old given t
+        (given : List ℕ) × ReadsBytes left faults down (λ came. GoesOnFrom how k b r came × Runs (turns_come k b r came)) s given t → (given : List ℕ) × ReadsBytes left faults down May old given t
     reads_all inputs r old s t same most head rows =
         let g = head.1 in
         let h = head.2 in

@@ -5,8 +5,8 @@ use Rattle.std.proofs.lemmas.List.Elements.{All-nil, All-cons}
 use Rattle.std.proofs.lemmas.List.Splits.{slice_split_at}
 use Rattle.forec_kernel.specs.Composed.{TickInput}
 use Rattle.forec_kernel.specs.Shapes.{PlainKernel}
-use Rattle.forec_kernel.specs.Ticks.{State, Fresh, tick, goes_on}
-use Rattle.trace_rows.specs.Lines.{is_newline, tidy, front, on_parts, lines_of, whole_lines}
+use Rattle.forec_kernel.specs.Ticks.{TickState, Fresh, tick, goes_on}
+use Rattle.trace_rows.specs.Lines.{is_newline, tidy, all_but_last, on_parts, lines_of, whole_lines}
 use Rattle.trace_rows.specs.Trace.{Row, Form, Trace, behind, form_after, header_at, next_form, onto, row_at, rows_from, rows_of_lines, trace_of}
 use Rattle.trace_runs.specs.KernelNames.{input_names}
 use Rattle.trace_runs.specs.Report.{Pace, advance, turns_from, trace_turns}
@@ -26,17 +26,17 @@ row_first limit form n line lines row e = ap (λ r. onto r n (rows_from limit (f
 abbrev turn_at : ℕ → Row → TickInput
 turn_at budget row = record { row = row; budget = budget }
 
-abbrev turns_in : ℕ → PlainKernel → ℕ → Form → State → ℕ → List (List ℕ) → List TickInput
+abbrev turns_in : ℕ → PlainKernel → ℕ → Form → TickState → ℕ → List (List ℕ) → List TickInput
 turns_in limit k budget form s n lines = turns_from k budget s (rows_from limit form n lines).rows
 
-turn_alone : (k : PlainKernel) (budget : ℕ) (s : State) (row : Row) → turns_from k budget s (row ∷ []) ≡ turn_at budget row ∷ []
+turn_alone : (k : PlainKernel) (budget : ℕ) (s : TickState) (row : Row) → turns_from k budget s (row ∷ []) ≡ turn_at budget row ∷ []
 turn_alone k budget s row = by (goes_on (tick k budget s row).outcome)
   where
     by : (b : Bool) → turn_at budget row ∷ (if b then [] else []) ≡ turn_at budget row ∷ []
     by true = refl
     by false = refl
 
-pub turns_more : (limit : ℕ) (how : Format) (k : PlainKernel) (budget : ℕ) (form : Form) (s : State) (n : ℕ) (lines : List (List ℕ)) (p : Pace) (line : List ℕ) (row : Row) →
+pub turns_more : (limit : ℕ) (how : Format) (k : PlainKernel) (budget : ℕ) (form : Form) (s : TickState) (n : ℕ) (lines : List (List ℕ)) (p : Pace) (line : List ℕ) (row : Row) →
     advance limit how k budget form s n lines ≡ Some p → row_at limit p.form p.next line ≡ Ok row →
     turns_from k budget s (rows_from limit form n (lines ++ line ∷ [])).rows ≡ turns_from k budget s (rows_from limit form n lines).rows ++ record { row = row; budget = budget } ∷ []
 turns_more limit how k budget form s n [] p line row e h =
@@ -68,7 +68,7 @@ parts_clean (x ∷ xs) = by_test (is_newline x) (slice_split is_newline xs) refl
     by_test false [] e h = (All-cons (λ b. is_newline b ≡ false) x [] e (All-nil (λ b. is_newline b ≡ false)), tt)
     by_test false (part ∷ parts) e h = (All-cons (λ b. is_newline b ≡ false) x part e h.0, h.1)
 
-front_clean : (parts : List (List ℕ)) (part : List ℕ) → AllClean parts → NoNewline part → AllClean (front parts part)
+front_clean : (parts : List (List ℕ)) (part : List ℕ) → AllClean parts → NoNewline part → AllClean (all_but_last parts part)
 front_clean [] part hs h = tt
 front_clean (next ∷ parts) part hs h = (h, front_clean parts next hs.1 hs.0)
 
@@ -76,7 +76,7 @@ whole_clean : (bs : List ℕ) → AllClean (whole_lines bs)
 unfolding whole_lines
 whole_clean bs = by (slice_split is_newline bs) (parts_clean bs)
   where
-    by : (parts : List (List ℕ)) → AllClean parts → AllClean (on_parts front parts)
+    by : (parts : List (List ℕ)) → AllClean parts → AllClean (on_parts all_but_last parts)
     by [] h = tt
     by (part ∷ parts) h = front_clean parts part h.1 h.0
 

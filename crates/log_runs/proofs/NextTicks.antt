@@ -3,12 +3,12 @@ use Rattle.std.proofs.Common.{ℕ, zero, suc, ◌<◌, ◌≡◌, ◌⊎◌, inl
 use Rattle.forec_kernel.specs.declared.shape.VarCopy.{VarCopy}
 use Rattle.forec_kernel.specs.declared.shape.Outcome.{Outcome}
 use Rattle.forec_kernel.specs.declared.shape.Outcome.TheVariants as outcome
-use Rattle.forec_kernel.specs.Composed.{TickInput, Tells, next_state, state_after, tick_jobs}
+use Rattle.forec_kernel.specs.Composed.{TickInput, MeansReply, next_state, state_after, tick_jobs}
 use Rattle.forec_kernel.specs.Engine.{Job, Start, Wake, Reply, WasPaused, WasEnded, WasTrapped, WasOver, Seed, View, AtFork, Exchange, Output, Nothing, Alone, Rest, Asleep, Begins, pair_all, last_reply, AllReply}
 use Rattle.forec_kernel.specs.Shapes.{PlainShape, PlainKernel}
 use Rattle.forec_kernel.specs.Solo.{Solo, At, TooLong, fork_of, seeds_for, view_at, solo_view, kernel_engine, KernelAlone, values_in}
-use Rattle.forec_kernel.specs.Texts.{Status, Running, Paused, Ended, Gone, Trapped, Text, Done, Run, Then, Turning, Resting, Fork, Held, Watch, Last, Threads, no_threads, child, some_running, uses_in}
-use Rattle.forec_kernel.specs.Ticks.{State, Fresh, Tick, tick, with_row, start_copies, unmarked}
+use Rattle.forec_kernel.specs.Texts.{Status, Running, Paused, Ended, Gone, Trapped, RunningText, Done, Run, Then, Turning, Resting, Fork, Held, Watch, Last, Threads, no_threads, child, some_running, uses_in}
+use Rattle.forec_kernel.specs.Ticks.{TickState, Fresh, Tick, tick, with_row, start_copies, unmarked}
 use Rattle.forec_kernel.specs.WellFormed.{WellFormed}
 use Rattle.forec_kernel.proofs.SoloTotal.{solo_steady, solo_total}
 use Rattle.exchange_meaning.specs.Logged.{ExchangeLog, HasBranch, AreTold}
@@ -33,7 +33,7 @@ none_there k woke (child t R w c Ended rest) h e = none_there k woke rest h e
 none_there k woke (child t R w c Gone rest) h e = none_there k woke rest h e
 none_there k woke (child t R w c (Trapped place trap) rest) h e = none_there k woke rest h e
 
-fork_runs : (R : Text) (cs : Threads) → fork_of R ≡ Some cs → some_running cs ≡ true
+fork_runs : (R : RunningText) (cs : Threads) → fork_of R ≡ Some cs → some_running cs ≡ true
 fork_runs Done cs e = cc
 fork_runs (Run s) cs e = cc
 fork_runs (Then R a) cs e = fork_runs R cs e
@@ -102,12 +102,12 @@ snoc_of (t ∷ turns) = inr (by (snoc_of turns))
     by (inr h) = (t ∷ h.0, h.1, ap (λ ts. t ∷ ts) h.2)
 
 -- a tick before others pauses
-pub pause_at : (k : PlainKernel) (s : State) (old : List TickInput) (t turn : TickInput) (more : List TickInput) → AllButLastPause k s ((old ++ t ∷ []) ++ turn ∷ more) → (tick k t.budget (state_after k s old) t.row).outcome ≡ outcome.Paused
+pub pause_at : (k : PlainKernel) (s : TickState) (old : List TickInput) (t turn : TickInput) (more : List TickInput) → AllButLastPause k s ((old ++ t ∷ []) ++ turn ∷ more) → (tick k t.budget (state_after k s old) t.row).outcome ≡ outcome.Paused
 pause_at k s [] t turn more h = h.0
 pause_at k s (x ∷ []) t turn more h = pause_at k (next_state k s x) [] t turn more h.1
 pause_at k s (x ∷ y ∷ old) t turn more h = pause_at k (next_state k s x) (y ∷ old) t turn more h.1
 
-paused_reply : (k : PlainKernel) (T : Tick) (r : Reply) → Tells k T r → T.outcome ≡ outcome.Paused → (copies : List VarCopy) × (u : ℕ) × (r ≡ WasPaused copies u)
+paused_reply : (k : PlainKernel) (T : Tick) (r : Reply) → MeansReply k T r → T.outcome ≡ outcome.Paused → (copies : List VarCopy) × (u : ℕ) × (r ≡ WasPaused copies u)
 paused_reply k T (WasPaused copies u) h p = (copies, u, refl)
 paused_reply k T (WasEnded copies u) h p = let f = sym p ∙ h.0 in cc
 paused_reply k T (WasTrapped place trap u) h p = let f = sym p ∙ h in cc

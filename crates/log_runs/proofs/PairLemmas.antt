@@ -2,7 +2,7 @@
 use Rattle.std.proofs.Common.{◌≡◌, ◌+◌, ◌-◌, ◌*◌, ◌^◌, ◌<◌, ◌≤◌, ℕ, zero, suc, Some, List, [], ◌∷◌, ◌++◌, length, take, drop, min, refl, sym, ap, subst, ◌∙◌, arith, append_assoc, append-nil}
 use Rattle.forec_kernel.specs.Packets.{PlainPacket}
 use Rattle.copy_slots.specs.declared.view.Sender.{Sender}
-use Rattle.copy_slots.specs.Ports.{Ends, parent_at, sent_by, sent, got}
+use Rattle.copy_slots.specs.Ports.{MailboxEnds, parent_at, sent_by, sent, got}
 use Rattle.core_seats.specs.Posts.{Mail}
 use Rattle.exchange_meaning.specs.Logged.{Logged, ExchangeLog}
 use Rattle.exchange_meaning.specs.LogLines.{job_line, reply_line, exchange_lines, thread_log_lines, log_lines_from, log_text}
@@ -47,7 +47,7 @@ few_jobs : (ps : List PlainPacket) → length ps ≤ words_of_jobs ps
 few_jobs [] = omega arith
 few_jobs (p ∷ ps) = let ih = few_jobs ps in omega (arith, ih)
 
-pub few_sent : (ends : List (Ends PlainPacket)) (k : ℕ) (x : Sender PlainPacket) → parent_at ends k ≡ Some x → length x.sent ≤ mail_words ends
+pub few_sent : (ends : List (MailboxEnds PlainPacket)) (k : ℕ) (x : Sender PlainPacket) → parent_at ends k ≡ Some x → length x.sent ≤ mail_words ends
 few_sent [] k x e = cc
 few_sent (e ∷ es) zero x is =
     let few = few_jobs x.sent in

@@ -4,7 +4,7 @@ use Rattle.forec_kernel.specs.declared.shape.Outcome.{Outcome}
 use Rattle.forec_kernel.specs.declared.shape.Outcome.TheVariants as outcome
 use Rattle.forec_kernel.specs.Composed.{TickInput}
 use Rattle.forec_kernel.specs.Shapes.{PlainKernel}
-use Rattle.forec_kernel.specs.Ticks.{State, Fresh, Tick, tick, goes_on}
+use Rattle.forec_kernel.specs.Ticks.{TickState, Fresh, Tick, tick, goes_on}
 use Rattle.exchange_meaning.specs.LogOf.{AllButLastPause}
 use Rattle.trace_rows.specs.Trace.{Row}
 use Rattle.trace_runs.specs.Report.{turns_from, trace_turns}
@@ -18,7 +18,7 @@ paused_on outcome.Over e = absurd (let bad : false ≡ true = e in cc)
 abbrev turn_at : ℕ → Row → TickInput
 turn_at budget row = record { row = row; budget = budget }
 
-turns_pause : (k : PlainKernel) (budget : ℕ) (s : State) (rows : List Row) → AllButLastPause k s (turns_from k budget s rows)
+turns_pause : (k : PlainKernel) (budget : ℕ) (s : TickState) (rows : List Row) → AllButLastPause k s (turns_from k budget s rows)
 turns_pause k budget s [] = tt
 turns_pause k budget s (row ∷ []) = by (goes_on (tick k budget s row).outcome)
   where

@@ -13,7 +13,7 @@ use Rattle.log_text.specs.Fronts.{IsFirstBad, IsLogOf}
 use Rattle.log_text.specs.ReadLogs.{IsReadFrom}
 use Rattle.log_text.specs.declared.log.Log.{Log}
 use Rattle.log_runs.specs.ReplayRuns.{FailsLast, FailsLastIn, IsReplay, Of_no_log, Of_thread, ReplaysRows, differing, no_log}
-use Rattle.trace_runs.specs.Prints.{Says}
+use Rattle.trace_runs.specs.Prints.{PrintsReport}
 use Rattle.trace_runs.specs.Report.{Report}
 use Rattle.trace_runs.specs.declared.status.Status.{Status}
 use Rattle.trace_runs.specs.declared.status.Status.TheVariants as status
@@ -70,7 +70,7 @@ module _ {S K : Type 0} (left : S → Option (List ℕ)) (faults : S → ℕ) (d
   replay_unrun kept = record { prints = prints_nothing held lost is_down _ _ _ _ _ out out' kept; trace = inl refl }
 
   -- a line is told whatever the trace has
-  pub replay_said : (r : Report) (Misused : Type 0) (result : Status) → ((bytes : List ℕ) → IsReplay limit k budget text bytes r) → (Misused → ⊥) → Says held lost is_down r Misused out out' result → Rows result
+  pub replay_said : (r : Report) (Misused : Type 0) (result : Status) → ((bytes : List ℕ) → IsReplay limit k budget text bytes r) → (Misused → ⊥) → PrintsReport held lost is_down r Misused out out' result → Rows result
   replay_said r Misused result is other p = record {
     prints = prints_as held lost is_down _ _ _ _ _ out out' _ _ _ _ _ result (λ t. tt) (λ t q e. (t.0, t.1, subst (IsReplay limit k budget text t.0) (sym e) (is t.0))) other (λ n. absurd n) (λ n. absurd n) p;
     trace = inl refl;
@@ -79,12 +79,12 @@ module _ {S K : Type 0} (left : S → Option (List ℕ)) (faults : S → ℕ) (d
   never : status.Refused ≡ status.Usage → ⊥
   never m = absurd (let bad : status.Refused ≡ status.Usage = m in cc)
 
-  pub no_log_said : (s : PlainShape) (n : ℕ) (result : Status) → s ≡ k.shape → IsFirstBad s text n → Says held lost is_down (no_log n) (status.Refused ≡ status.Usage) out out' result → Rows result
+  pub no_log_said : (s : PlainShape) (n : ℕ) (result : Status) → s ≡ k.shape → IsFirstBad s text n → PrintsReport held lost is_down (no_log n) (status.Refused ≡ status.Usage) out out' result → Rows result
   no_log_said s n result same bad p =
       replay_said (no_log n) (status.Refused ≡ status.Usage) result (λ bytes. Of_no_log n (subst (λ (x : PlainShape). IsFirstBad x text n) same bad) refl) never p
 
   pub thread_said : (c : PlainCode) (t number : ℕ) (l : Log) (result : Status) → WellFormed k → Stands c k → (from : IsReadFrom c.shape text l) → FailsLastIn c from.log t number →
-      Says held lost is_down (differing [] t number) (status.Refused ≡ status.Usage) out out' result → Rows result
+      PrintsReport held lost is_down (differing [] t number) (status.Refused ≡ status.Usage) out out' result → Rows result
   thread_said c t number l result fine stands from f p =
       let w = fails_last c k fine stands from.log t number f in
       let is = subst (λ (s : PlainShape). IsLogOf s from.log text) stands.shape (subst (IsLogOf c.shape from.log) from.same from.pairs.is) in

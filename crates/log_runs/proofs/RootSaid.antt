@@ -4,7 +4,7 @@ use Rattle.std.specs.Io.KnownBytes.{Appends}
 use Rattle.forec_base.specs.Outside.{Fell}
 use Rattle.trace_runs.specs.Calls.{AppendsFront}
 use Rattle.trace_runs.specs.Ends.{IsOwn, Given}
-use Rattle.trace_runs.specs.Prints.{Prints, Says}
+use Rattle.trace_runs.specs.Prints.{Prints, PrintsReport}
 use Rattle.trace_runs.specs.Report.{Report}
 use Rattle.trace_runs.specs.declared.status.Status.{Status}
 use Rattle.trace_runs.specs.declared.status.Status.TheVariants as status
@@ -13,7 +13,7 @@ use Rattle.trace_runs.proofs.Told.{appends_both, front_behind}
 
 -- a line is said behind what was sent before, which is told by what is known
 pub said_after : {K : Type 0} (held : K → Option (List ℕ)) (lost : K → ℕ) (is_down : K → Bool) (Told : Type 0) (Is : Report → Type 0) (Unread : Type 0) (line : Report) (Misused : Type 0) (out mid out' : K) (result : Status) →
-    lost out ≤ lost mid → (Misused → ⊥) → result ≢ status.NoMemory → Says held lost is_down line Misused mid out' result →
+    lost out ≤ lost mid → (Misused → ⊥) → result ≢ status.NoMemory → PrintsReport held lost is_down line Misused mid out' result →
     (Told → (sent : List ℕ) × Appends (held out) (held mid) sent × Is (record { bytes = sent ++ line.bytes; status = line.status })) → Prints held lost is_down Told Is ⊥ Unread ⊥ out out' result
 said_after held lost is_down Told Is Unread line Misused out mid out' result later other some p told = record {
   own = λ mine now.

@@ -1,6 +1,6 @@
 -- The ticks that thread 0 of a code replays are those of the kernel.
 use Rattle.std.proofs.Common.{◌≡◌, ◌<◌, ℕ, ℤ, Some, List, [], ◌∷◌, ◌++◌, length, refl, sym, ap, subst, ◌∙◌}
-use Rattle.forec_kernel.specs.Composed.{TickInput, Tells}
+use Rattle.forec_kernel.specs.Composed.{TickInput, MeansReply}
 use Rattle.forec_kernel.specs.Engine.{Exchange, Output, Reply, WasPaused, WasEnded, WasTrapped, WasOver}
 use Rattle.forec_kernel.specs.Shapes.{PlainShape, PlainKernel}
 use Rattle.forec_kernel.specs.Solo.{KernelAlone}
@@ -21,7 +21,7 @@ use Rattle.tick_jobs.specs.Outcomes.{HasOutputs, ComesTo}
 use Rattle.trace_runs.specs.Ticking.{tick_after}
 use Rattle.log_runs.specs.RootWalks.{IsHeldTo}
 
-went_so : (k : PlainKernel) (s : PlainShape) → s ≡ k.shape → (t : Tick) (r : Reply) (o : Outcome) (values : List ℤ) → Tells k t r → ComesTo s r o values →
+went_so : (k : PlainKernel) (s : PlainShape) → s ≡ k.shape → (t : Tick) (r : Reply) (o : Outcome) (values : List ℤ) → MeansReply k t r → ComesTo s r o values →
     (o ≡ t.outcome) × (HasOutputs o → values ≡ t.outputs)
 went_so k s same t (WasPaused copies u) o values h c =
     (c.0 ∙ sym h.0, λ has. c.1 ∙ ap (λ (x : PlainShape). values_of (uses_in x.threads 0) copies x.outputs) same ∙ sym h.1)

@@ -11,7 +11,7 @@ use Rattle.exchange_replay.specs.Rooted.{CannotTick}
 use Rattle.trace_rows.specs.Reader.{Reader}
 use Rattle.trace_runs.specs.Calls.{AppendsFront}
 use Rattle.trace_runs.specs.Ends.{IsOwn}
-use Rattle.trace_runs.specs.Progress.{IsWhole, report_rest, turns_rest}
+use Rattle.trace_runs.specs.Progress.{IsWholeReport, report_rest, turns_rest}
 use Rattle.trace_runs.specs.Report.{status_after}
 use Rattle.trace_runs.specs.declared.format.Format.{Format}
 use Rattle.trace_runs.specs.declared.status.Status.{Status}
@@ -41,7 +41,7 @@ some_and (Some x) P Q h k = (h, k)
 
 -- the last lines wait
 pub has_walked : (how : Format) (k : PlainKernel) (b : ℕ) (first : Reader) (F : List TickInput → Type 0) (l0 h0 h : Option (List ℕ)) (waiting : List ℕ) (end : Status) (turns : List TickInput) (number : ℕ) → number ≡ length turns →
-    IfSome l0 (IsWhole how k b first F h0 h waiting end) → IfSome l0 (λ x. turns_rest k b first x ≡ turns) →
+    IfSome l0 (IsWholeReport how k b first F h0 h waiting end) → IfSome l0 (λ x. turns_rest k b first x ≡ turns) →
     IfSome l0 (λ x. HasWalked F (turns_rest k b first x) (report_rest how k b first x) h0 h waiting number end)
 has_walked how k b first F l0 h0 h waiting end turns number count whole are =
     some_map l0 _ _ (some_and l0 _ _ whole are) (λ x w. record {

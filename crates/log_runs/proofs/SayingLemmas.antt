@@ -4,7 +4,7 @@ use Rattle.std.specs.Io.KnownBytes.{Appends}
 use Rattle.forec_base.specs.Outside.{Fell}
 use Rattle.trace_runs.specs.Calls.{AppendsFront}
 use Rattle.trace_runs.specs.Ends.{IsOwn}
-use Rattle.trace_runs.specs.Prints.{Says}
+use Rattle.trace_runs.specs.Prints.{PrintsReport}
 use Rattle.trace_runs.specs.Report.{Report}
 use Rattle.trace_runs.specs.declared.status.Status.{Status}
 use Rattle.trace_runs.specs.declared.status.Status.TheVariants as status
@@ -19,13 +19,13 @@ module _ {K : Type 0} (held : K → Option (List ℕ)) (lost : K → ℕ) (is_do
   whole = record { bytes = before ++ line; status = end }
 
   -- the bytes before it weren't written
-  pub said_front : Fell (lost out) (lost out') (is_down out') → AppendsFront (held out) (held out') before → Says held lost is_down whole (end ≡ status.Usage) out out' status.WriteFault
+  pub said_front : Fell (lost out) (lost out') (is_down out') → AppendsFront (held out) (held out') before → PrintsReport held lost is_down whole (end ≡ status.Usage) out out' status.WriteFault
   said_front fell front =
       prints_front held lost is_down Unit (λ q. q ≡ whole) (end ≡ status.Usage) ⊥ ⊥ out out' fell (λ _. (whole, refl, front_longer (held out) (held out') before line front))
 
   -- they were
   pub said_behind : (waiting : List ℕ) (result : Status) → waiting ≡ line → Appends (held out) (held mid) before → lost out ≤ lost mid →
-      Says held lost is_down (record { bytes = waiting; status = end }) (end ≡ status.Usage) mid out' result → result ≢ status.NoMemory → Says held lost is_down whole (end ≡ status.Usage) out out' result
+      PrintsReport held lost is_down (record { bytes = waiting; status = end }) (end ≡ status.Usage) mid out' result → result ≢ status.NoMemory → PrintsReport held lost is_down whole (end ≡ status.Usage) out out' result
   said_behind waiting result is sent later p some = record {
     own = λ mine _.
         let r = p.own mine tt in

@@ -5,7 +5,7 @@ use Rattle.forec_kernel.specs.Composed.{TickInput}
 use Rattle.forec_kernel.specs.Engine.{Exchange, Output, pair_all}
 use Rattle.forec_kernel.specs.Shapes.{PlainKernel}
 use Rattle.forec_kernel.specs.Solo.{KernelAlone}
-use Rattle.forec_kernel.specs.Ticks.{State, Fresh, Tick, tick, goes_on, run_from}
+use Rattle.forec_kernel.specs.Ticks.{TickState, Fresh, Tick, tick, goes_on, run_from}
 use Rattle.forec_kernel.specs.WellFormed.{WellFormed, thread_of}
 use Rattle.thread_code.specs.Valid.{of_shape}
 use Rattle.exchange_meaning.specs.Logged.{Logged, HasBranch, AreTold, told_to}
@@ -28,7 +28,7 @@ use Rattle.log_runs.proofs.Pausing.{trace_pauses}
 
 -- ---- the lines of more ticks
 
-runs_more : (k : PlainKernel) (budget : ℕ) (s : State) (rows more : List Row) → (rest : List Tick) × (run_from k budget s (rows ++ more) ≡ run_from k budget s rows ++ rest)
+runs_more : (k : PlainKernel) (budget : ℕ) (s : TickState) (rows more : List Row) → (rest : List Tick) × (run_from k budget s (rows ++ more) ≡ run_from k budget s rows ++ rest)
 runs_more k budget s [] more = (run_from k budget s more, refl)
 runs_more k budget s (row ∷ rows) more = by (goes_on (tick k budget s row).outcome) refl (runs_more k budget (tick k budget s row).state rows more)
   where

@@ -18,7 +18,7 @@ use Rattle.log_runs.specs.RunLogs.{IsLogReport, Of_kept, Of_full, log_full, logg
 use Rattle.log_runs.specs.declared.logging.TheConstants.{LOG_WORDS}
 use Rattle.trace_runs.specs.Calls.{AppendsFront}
 use Rattle.trace_runs.specs.Ends.{IsOwn}
-use Rattle.trace_runs.specs.Prints.{Prints, Says}
+use Rattle.trace_runs.specs.Prints.{Prints, PrintsReport}
 use Rattle.trace_runs.specs.declared.status.Status.{Status}
 use Rattle.trace_runs.specs.declared.status.Status.TheVariants as status
 use Rattle.trace_runs.proofs.Printing.{prints_as, prints_all, prints_front}
@@ -63,7 +63,7 @@ module _ {K : Type 0} (held : K → Option (List ℕ)) (lost : K → ℕ) (is_do
   abbrev pub Told : Status → Type 0
   Told result = Prints held lost is_down ⊤ (IsLogReport (code_of h).shape (log_in h.mail) end) (end ≡ status.Usage) ⊥ ⊥ out out' result
 
-  pub told_full : (result : Status) → IsLogReport (code_of h).shape (log_in h.mail) end log_full → Says held lost is_down log_full (status.Full ≡ status.Usage) out out' result → Told result
+  pub told_full : (result : Status) → IsLogReport (code_of h).shape (log_in h.mail) end log_full → PrintsReport held lost is_down log_full (status.Full ≡ status.Usage) out out' result → Told result
   told_full result is p =
       prints_as held lost is_down _ _ _ _ _ out out' ⊤ (IsLogReport (code_of h).shape (log_in h.mail) end) (end ≡ status.Usage) ⊥ ⊥ result (λ t. t)
       (λ t r e. subst (IsLogReport (code_of h).shape (log_in h.mail) end) (sym e) is) (λ m. absurd (let bad : status.Full ≡ status.Usage = m in cc)) (λ n. n) (λ n. n) p

@@ -13,10 +13,10 @@ use Rattle.exchange_replay.specs.Rooted.{HasReplayed, UsesAll}
 use Rattle.exchange_replay.specs.declared.replayer.Replayer.{Replayer}
 use Rattle.log_text.specs.Fronts.{IsLogOf}
 use Rattle.log_text.specs.declared.log.Log.{Log}
-use Rattle.trace_rows.specs.SourceReads.{Reads, none}
+use Rattle.trace_rows.specs.SourceReads.{ReadsBytes, none}
 use Rattle.trace_runs.specs.KernelNames.{run_format}
 use Rattle.trace_runs.specs.Led.{IsTold}
-use Rattle.trace_runs.specs.Prints.{Says}
+use Rattle.trace_runs.specs.Prints.{PrintsReport}
 use Rattle.trace_runs.specs.Report.{Report, trace_report, trace_turns}
 use Rattle.trace_runs.specs.declared.format.Format.{Format}
 use Rattle.trace_runs.specs.declared.format.Telling.TheVariants as telling
@@ -61,7 +61,7 @@ module _ {S K : Type 0} (left : S → Option (List ℕ)) (faults : S → ℕ) (d
   runs_over : (came : List ℕ) → RootRuns c log (turns_given limit k budget came) → RunsOver limit k budget log came
   runs_over came h = runs_kernel c l k log holds (turns_given limit k budget came) h
 
-  read_so : (given : List ℕ) × Reads left faults down (MayRead c log limit how k budget) old given new → ReadForReplay left faults down limit k budget text old new
+  read_so : (given : List ℕ) × ReadsBytes left faults down (MayRead c log limit how k budget) old given new → ReadForReplay left faults down limit k budget text old new
   read_so t = record {
     agrees = agrees;
     given = t.0;
@@ -114,7 +114,7 @@ module _ {S K : Type 0} (left : S → Option (List ℕ)) (faults : S → ℕ) (d
     behind : (sent all line : List ℕ) → all ≡ sent ++ waiting → sent ++ (waiting ++ line) ≡ all ++ line
     behind sent all line e = sym (append_assoc sent waiting line) ∙ ap (λ x. x ++ line) (sym e)
 
-    pub root_differs : (n : ℕ) → Says_so (walked.Differs n) → Says held lost is_down (differing waiting 0 n) (status.Refused ≡ status.Usage) mid out' result → Rows out' result
+    pub root_differs : (n : ℕ) → Says_so (walked.Differs n) → PrintsReport held lost is_down (differing waiting 0 n) (status.Refused ≡ status.Usage) mid out' result → Rows out' result
     root_differs n w p = record {
       prints = said_after held lost is_down (IsTold (left old)) (IsTraceReplay limit k budget text (left old)) _ (differing waiting 0 n) (status.Refused ≡ status.Usage) out mid out' result w.later never some p (λ t.
           let d = told_is (left old) _ t.0 w.went t.1 in (
@@ -137,7 +137,7 @@ module _ {S K : Type 0} (left : S → Option (List ℕ)) (faults : S → ℕ) (d
     All_used s turns = (root : RunsTicks (KernelAlone k) s log turns) × IsAll s log 0 (pair_all root.tells.exchanges root.tells.outputs)
 
     pub root_left : (used : Bool) (ticks n : ℕ) (end : Status) → used ≡ false → n ≡ ticks + 1 → ((turns : List TickInput) → UsesAll c l log r turns used) → Says_so (walked.Whole ticks end) →
-        Says held lost is_down (differing waiting 0 n) (status.Refused ≡ status.Usage) mid out' result → Rows out' result
+        PrintsReport held lost is_down (differing waiting 0 n) (status.Refused ≡ status.Usage) mid out' result → Rows out' result
     root_left used ticks n end off number uses w p = record {
       prints = said_after held lost is_down (IsTold (left old)) (IsTraceReplay limit k budget text (left old)) _ (differing waiting 0 n) (status.Refused ≡ status.Usage) out mid out' result w.later never some p (λ t.
           let d = told_is (left old) _ t.0 w.went t.1 in
@@ -159,7 +159,7 @@ module _ {S K : Type 0} (left : S → Option (List ℕ)) (faults : S → ℕ) (d
     }
 
     pub root_same : (used : Bool) (ticks : ℕ) (end : Status) → used ≡ true → ((turns : List TickInput) → UsesAll c l log r turns used) → Says_so (walked.Whole ticks end) →
-        Says held lost is_down (record { bytes = waiting ++ codes "replay ok\n"; status = end }) (end ≡ status.Usage) mid out' result → Rows out' result
+        PrintsReport held lost is_down (record { bytes = waiting ++ codes "replay ok\n"; status = end }) (end ≡ status.Usage) mid out' result → Rows out' result
     root_same used ticks end on uses w p = record {
       prints = said_after held lost is_down (IsTold (left old)) (IsTraceReplay limit k budget text (left old)) _ (record { bytes = waiting ++ codes "replay ok\n"; status = end }) (end ≡ status.Usage) out mid out' result w.later w.ends.1 some p (λ t.
           let d = told_is (left old) _ t.0 w.went t.1 in

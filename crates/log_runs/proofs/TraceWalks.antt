@@ -10,7 +10,7 @@ use Rattle.thread_code.specs.Plain.{PlainCode}
 use Rattle.exchange_meaning.specs.Logged.{ExchangeLog}
 use Rattle.trace_rows.specs.Calls.{IfTold}
 use Rattle.trace_rows.specs.Report.{row_words}
-use Rattle.trace_rows.specs.SourceReads.{Reads}
+use Rattle.trace_rows.specs.SourceReads.{ReadsBytes}
 use Rattle.trace_rows.specs.declared.fault.RowFault.{RowFault}
 use Rattle.trace_runs.specs.Ends.{Wanted}
 use Rattle.trace_runs.specs.Formats.{opening, last_written}
@@ -67,7 +67,7 @@ pub record WalkSays {S K : Type 0} (left : S → Option (List ℕ)) (faults : S 
   pub ends : EndsBy (Fell (faults old) (faults new) (down new)) (Fell (lost out) (lost out') (is_down out')) (out' ≡ out) w
   pub wanted : w ≡ walked.Failed status.ReadFault → Wanted limit how k b (left old) (left new) (held out) (held out')
   pub given : w ≡ walked.Failed status.ReadFault → IfTold (left old) (left new) (GivenRuns c log limit k b)
-  pub trace : (given : List ℕ) × Reads left faults down (MayRead c log limit how k b) old given new
+  pub trace : (given : List ℕ) × ReadsBytes left faults down (MayRead c log limit how k b) old given new
   pub later : lost out ≤ lost out'
 
 pub walk_at : {S K : Type 0} (left : S → Option (List ℕ)) (faults : S → ℕ) (down : S → Bool) (held : K → Option (List ℕ)) (lost : K → ℕ) (is_down : K → Bool) (c : PlainCode) (log : ExchangeLog) (k : PlainKernel) (Has : List TickInput → Type 0)

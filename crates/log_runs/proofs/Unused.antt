@@ -7,7 +7,7 @@ use Rattle.thread_code.specs.Plain.{plain_code}
 use Rattle.thread_code.specs.Valid.{IsValidCode}
 use Rattle.thread_code.specs.declared.instruction.CodeParts.{CodeParts}
 use Rattle.copy_slots.specs.declared.view.Sender.{Sender}
-use Rattle.copy_slots.specs.Ports.{Ends, parent_at}
+use Rattle.copy_slots.specs.Ports.{MailboxEnds, parent_at}
 use Rattle.core_alloc.specs.Places.{Places}
 use Rattle.core_seats.specs.Loads.{AreAll, CanLoad, ArePlaced, IsNewParent, is_on}
 use Rattle.core_seats.specs.Posts.{Mail}
@@ -17,7 +17,7 @@ new_parent : (b : Bool) (x : Sender PlainPacket) → IsNewParent b (Some x) → 
 new_parent true x h = (h.1, h.2)
 new_parent false x h = absurd h
 
-parent_within : (ends : List (Ends PlainPacket)) (k : ℕ) (x : Sender PlainPacket) → parent_at ends k ≡ Some x → k < length ends
+parent_within : (ends : List (MailboxEnds PlainPacket)) (k : ℕ) (x : Sender PlainPacket) → parent_at ends k ≡ Some x → k < length ends
 parent_within [] k x e = cc
 parent_within (e ∷ es) zero x is = omega arith
 parent_within (e ∷ es) (suc k) x is = let ih = parent_within es k x is in omega (arith, ih)

@@ -9,7 +9,7 @@ use Rattle.thread_code.specs.Alone.{Stands}
 use Rattle.thread_code.specs.declared.instruction.CodeParts.{CodeParts}
 use Rattle.copy_slots.specs.Ports.{sent, got}
 use Rattle.core_host.specs.Hosted.{Hosted, code_of, is_live, IsWhole}
-use Rattle.core_host.specs.Runs.{HasJobs, HasRun}
+use Rattle.core_host.specs.Runs.{HasJobs, HostHasRun}
 use Rattle.exchange_log.specs.Kept.{Logging, HasParent, code_in_mail, mail_words}
 use Rattle.exchange_log.specs.Lines.{lines_room}
 use Rattle.exchange_log.specs.Posted.{log_in}
@@ -26,12 +26,12 @@ pub record IsLogging (code : CodeParts) (h : Hosted) : Type 0 where
 pub record IsNewLog (code : CodeParts) (h : Hosted) : Type 0 where
   pub code_is : h.code ≡ code
   pub live : is_live h ≡ true
-  pub none : HasRun h []
+  pub none : HostHasRun h []
 
 -- what went through a host's mailboxes is, for each kernel for which its code stands, the log of the ticks that it has run
 abbrev pub LogsItsTicks : Hosted → Type 0
 LogsItsTicks h =
-    (k : PlainKernel) → WellFormed k → Stands (code_of h) k → (turns : List TickInput) → AllButLastPause k Fresh turns → HasRun h turns → LogOfTicks k turns (log_in h.mail)
+    (k : PlainKernel) → WellFormed k → Stands (code_of h) k → (turns : List TickInput) → AllButLastPause k Fresh turns → HostHasRun h turns → LogOfTicks k turns (log_in h.mail)
 
 -- The numbers below n.
 abbrev pub numbers_below : ℕ → List ℕ

@@ -14,7 +14,7 @@ use Rattle.exchange_replay.specs.Replaying.{ReplaysSame, ReplaysUpTo}
 use Rattle.log_text.specs.Fronts.{IsFirstBad, IsLogOf}
 use Rattle.trace_rows.specs.Calls.{IfTold}
 use Rattle.trace_rows.specs.Lines.{whole_lines}
-use Rattle.trace_rows.specs.SourceReads.{Reads}
+use Rattle.trace_rows.specs.SourceReads.{ReadsBytes}
 use Rattle.trace_runs.specs.Ends.{Wanted, GoesOn}
 use Rattle.trace_runs.specs.KernelNames.{run_format}
 use Rattle.trace_runs.specs.Led.{IsTold}
@@ -108,7 +108,7 @@ pub record ReadForReplay {S : Type 0} (left : S → Option (List ℕ)) (faults :
     (old new : S) : Type 0 where
   pub agrees : AgreesText k text
   pub given : List ℕ
-  pub reads : Reads left faults down (λ came. GoesOn limit (run_format telling.Report k) k budget came × RunsOver limit k budget agrees.log came) old given new
+  pub reads : ReadsBytes left faults down (λ came. GoesOn limit (run_format telling.Report k) k budget came × RunsOver limit k budget agrees.log came) old given new
 
 -- A text was held to a kernel's run over a trace, of which at most `limit` rows. (As in `RunsRows`.)
 pub record ReplaysRows {S K : Type 0} (left : S → Option (List ℕ)) (faults : S → ℕ) (down : S → Bool) (held : K → Option (List ℕ)) (lost : K → ℕ) (is_down : K → Bool)

@@ -13,13 +13,13 @@ ghost use Rattle.exchange_meaning.specs.Replays.{AllAgree};
 ghost use Rattle.log_text.specs.ReadLogs.{IsLogFor, IsReadFrom, HasPairs};
 ghost use Rattle.exchange_replay.specs.Rooted.{HasReplayed};
 ghost use Rattle.trace_rows.specs.Calls.{IfTold};
-ghost use Rattle.trace_rows.specs.SourceReads.{Reads};
+ghost use Rattle.trace_rows.specs.SourceReads.{ReadsBytes};
 ghost use Rattle.trace_runs.specs.Ends.{IsOwn, Wanted};
-ghost use Rattle.trace_runs.specs.Prints.{Says};
+ghost use Rattle.trace_runs.specs.Prints.{PrintsReport};
 ghost use Rattle.trace_runs.specs.Progress.{Led, report_rest, turns_rest};
 ghost use Rattle.trace_runs.specs.Report.{trace_report, trace_turns};
 ghost use Rattle.trace_runs.specs.Sessions.{AreRowsOf, IsSessionOf};
-ghost use Rattle.trace_runs.specs.WaitingRoom.{HasRoom, Gains};
+ghost use Rattle.trace_runs.specs.WaitingRoom.{HasRoomFor, GainsBytes};
 ghost use Rattle.log_runs.specs.ReplayRuns.{ReplaysRows, FailsLastIn, difference_line, differing, no_log};
 ghost use Rattle.log_runs.specs.RootWalks.{IsHeldTo, WalkedTo, EndsBy, ComesRun, GivenRuns, MayRead, MayReadFrom};
 ghost use Rattle.log_runs.specs.declared.replaying.Walked.TheVariants as walked;
@@ -88,8 +88,8 @@ fn first_difference(
 
 /// Adds the line of a difference.
 fn put_difference(waiting: &mut Waiting, at: Difference)
-    requires { HasRoom waiting.old 64 }
-    ensures { Gains waiting.old waiting.new (difference_line at.thread at.number) }
+    requires { HasRoomFor waiting.old 64 }
+    ensures { GainsBytes waiting.old waiting.new (difference_line at.thread at.number) }
 {
     waiting.put(b"replay differs ");
     waiting.put_number(u64::from(at.thread));
@@ -100,7 +100,7 @@ fn put_difference(waiting: &mut Waiting, at: Difference)
 
 /// Writes what waits, and then the line of a difference.
 fn say_difference<K: Sink>(waiting: &mut Waiting, at: Difference, out: &mut K) -> Status
-    ensures says { Says K.held K.faults K.down (differing waiting.old.bytes.items at.thread at.number) (Status.Refused
+    ensures says { PrintsReport K.held K.faults K.down (differing waiting.old.bytes.items at.thread at.number) (Status.Refused
         ≡ Status.Usage)
         out.old out.new result }
     ensures memory { result ≢ Status.NoMemory }
@@ -115,7 +115,7 @@ fn say_difference<K: Sink>(waiting: &mut Waiting, at: Difference, out: &mut K) -
 /// Writes what waits, and then that the log is the run's, which ended so.
 fn say_same<K: Sink>(waiting: &mut Waiting, end: Status, out: &mut K) -> Status
     requires { IsOwn end }
-    ensures says { Says K.held K.faults K.down
+    ensures says { PrintsReport K.held K.faults K.down
         (record { bytes = waiting.old.bytes.items ++ codes "replay ok\n"; status = end })
         (end ≡ Status.Usage)
         out.old out.new result }
@@ -130,7 +130,7 @@ fn say_same<K: Sink>(waiting: &mut Waiting, end: Status, out: &mut K) -> Status
 
 /// Says which line of a text is the first that with those before it begins no log.
 fn say_no_log<K: Sink>(alloc: Global, line: u64, out: &mut K) -> Status
-    ensures { Says K.held K.faults K.down (no_log line) (Status.Refused ≡ Status.Usage) out.old out.new result }
+    ensures { PrintsReport K.held K.faults K.down (no_log line) (Status.Refused ≡ Status.Usage) out.old out.new result }
 {
     let Ok(mut waiting) = Waiting::plain(alloc) else {
         return Status::NoMemory;
@@ -175,7 +175,7 @@ fn replay_rows<S: Source, K: Sink>(
         → IfTold (S.left trace.old) (S.left trace.new)
         (ComesRun (plain_code code.now) pairs k session.old.budget rows.old) }
     ensures trace { (k : PlainKernel) (pairs : ExchangeLog) → IsHeldTo (plain_code code.now) log.now k pairs
-        → (given : List ℕ) × Reads S.left S.faults S.down (MayReadFrom (plain_code code.now) pairs
+        → (given : List ℕ) × ReadsBytes S.left S.faults S.down (MayReadFrom (plain_code code.now) pairs
         session.old.waiting.format k session.old.budget rows.old) trace.old given trace.new }
     ensures later { K.faults out.old ≤ K.faults out.new }
 {
@@ -262,7 +262,7 @@ fn replay_root<S: Source, K: Sink>(
         → IfTold (S.left trace.old) (S.left trace.new)
         (GivenRuns (plain_code code.now) pairs session.old.limit k session.old.budget) }
     ensures trace { (k : PlainKernel) (pairs : ExchangeLog) → IsHeldTo (plain_code code.now) log.now k pairs
-        → (given : List ℕ) × Reads S.left S.faults S.down (MayRead (plain_code code.now) pairs session.old.limit
+        → (given : List ℕ) × ReadsBytes S.left S.faults S.down (MayRead (plain_code code.now) pairs session.old.limit
         session.old.waiting.format k session.old.budget) trace.old given trace.new }
     ensures later { K.faults out.old ≤ K.faults out.new }
 {

@@ -2,7 +2,7 @@
 use Rattle.std.proofs.Common.{ℕ, zero, suc, ◌+◌, ◌-◌, ◌*◌, ◌<◌, ◌≤◌, ◌≡◌, ◌∙◌, ap, refl, Bool, true, false, ℤ, pos, negsuc, ◌+ℤ◌, ◌-ℤ◌, neg_ℤ, ◌≤ℤ◌, ◌<ℤ◌, Option, Some, None, arith}
 use Rattle.std.specs.Prelude.{int_lt, int_le}
 use Rattle.std.proofs.lemmas.Int.{ints}
-use Rattle.forec_tree.specs.Turns.{is_i32, run_of}
+use Rattle.forec_tree.specs.Turns.{is_i32, values_passed}
 use Rattle.forec_tree.proofs.Runs.{value_at, run_is, run_none, run_out}
 
 suc_times : (k c : ℕ) → suc k * c ≡ c + k * c
@@ -53,7 +53,7 @@ module _ (left : ℕ) (a limit : ℤ) (c n d : ℕ) (some : 1 ≤ n) (reach : d 
         let m = steps_mono k n c l in
         rw (up_at k c a) (in_32 (a +ℤ pos (k * c)) (grind (arith, ints)) (omega (arith, ints, h, m)))
 
-    pub up_some : n < left → (a +ℤ pos (n * c)) ≤ℤ pos 2147483647 → run_of left (λ v. int_lt v limit) (pos c) a ≡ Some n
+    pub up_some : n < left → (a +ℤ pos (n * c)) ≤ℤ pos 2147483647 → values_passed left (λ v. int_lt v limit) (pos c) a ≡ Some n
     up_some small h =
         run_is left (λ v. int_lt v limit) (pos c) a n small
         (record {
@@ -62,10 +62,10 @@ module _ (left : ℕ) (a limit : ℤ) (c n d : ℕ) (some : 1 ≤ n) (reach : d 
           fit = up_fits h;
         })
 
-    pub up_long : left ≤ n → run_of left (λ v. int_lt v limit) (pos c) a ≡ None
+    pub up_long : left ≤ n → values_passed left (λ v. int_lt v limit) (pos c) a ≡ None
     up_long h = run_none left (λ v. int_lt v limit) (pos c) a n h rises
 
-    pub up_out : pos 2147483647 <ℤ (a +ℤ pos (n * c)) → run_of left (λ v. int_lt v limit) (pos c) a ≡ None
+    pub up_out : pos 2147483647 <ℤ (a +ℤ pos (n * c)) → values_passed left (λ v. int_lt v limit) (pos c) a ≡ None
     up_out h = run_out left (λ v. int_lt v limit) (pos c) a n rises (rw (up_at n c a) (out_32 (a +ℤ pos (n * c)) h))
 
   -- falling
@@ -80,7 +80,7 @@ module _ (left : ℕ) (a limit : ℤ) (c n d : ℕ) (some : 1 ≤ n) (reach : d 
         let m = steps_mono k n c l in
         rw (down_at k c a) (in_32 (a -ℤ pos (k * c)) (omega (arith, ints, h, m)) (grind (arith, ints)))
 
-    pub down_some : n < left → negsuc 2147483647 ≤ℤ (a -ℤ pos (n * c)) → run_of left (λ v. int_lt limit v) (neg_ℤ (pos c)) a ≡ Some n
+    pub down_some : n < left → negsuc 2147483647 ≤ℤ (a -ℤ pos (n * c)) → values_passed left (λ v. int_lt limit v) (neg_ℤ (pos c)) a ≡ Some n
     down_some small h =
         run_is left (λ v. int_lt limit v) (neg_ℤ (pos c)) a n small
         (record {
@@ -89,21 +89,21 @@ module _ (left : ℕ) (a limit : ℤ) (c n d : ℕ) (some : 1 ≤ n) (reach : d 
           fit = down_fits h;
         })
 
-    pub down_long : left ≤ n → run_of left (λ v. int_lt limit v) (neg_ℤ (pos c)) a ≡ None
+    pub down_long : left ≤ n → values_passed left (λ v. int_lt limit v) (neg_ℤ (pos c)) a ≡ None
     down_long h = run_none left (λ v. int_lt limit v) (neg_ℤ (pos c)) a n h falls
 
-    pub down_out : (a -ℤ pos (n * c)) <ℤ negsuc 2147483647 → run_of left (λ v. int_lt limit v) (neg_ℤ (pos c)) a ≡ None
+    pub down_out : (a -ℤ pos (n * c)) <ℤ negsuc 2147483647 → values_passed left (λ v. int_lt limit v) (neg_ℤ (pos c)) a ≡ None
     down_out h = run_out left (λ v. int_lt limit v) (neg_ℤ (pos c)) a n falls (rw (down_at n c a) (under_32 (a -ℤ pos (n * c)) h))
 
 -- a test that fails at once
-pub none_pass : (left : ℕ) (passes : ℤ → Bool) (step a : ℤ) → 0 < left → passes a ≡ false → is_i32 a ≡ true → run_of left passes step a ≡ Some 0
+pub none_pass : (left : ℕ) (passes : ℤ → Bool) (step a : ℤ) → 0 < left → passes a ≡ false → is_i32 a ≡ true → values_passed left passes step a ≡ Some 0
 none_pass left passes step a h f i =
     run_is left passes step a 0 h
     (record { pass = λ k l. absurd (omega arith); fails = f; fit = λ k l. let e : k ≡ 0 = omega arith in rw e i })
 
 -- tests that agree
-pub same_run : (left : ℕ) (p q : ℤ → Bool) (step a : ℤ) → ((v : ℤ) → p v ≡ q v) → run_of left p step a ≡ run_of left q step a
-unfolding run_of
+pub same_run : (left : ℕ) (p q : ℤ → Bool) (step a : ℤ) → ((v : ℤ) → p v ≡ q v) → values_passed left p step a ≡ values_passed left q step a
+unfolding values_passed
 same_run zero p q step a h = refl
 same_run (suc left) p q step a h = rw (h a, same_run left p q step (a +ℤ step) h) refl
 
@@ -113,14 +113,14 @@ le_lt b v = grind (arith, ints)
 pub le_gt : (b v : ℤ) → int_lt (b -ℤ pos 1) v ≡ int_le b v
 le_gt b v = grind (arith, ints)
 
-pub up_to : (left : ℕ) (limit b step a n : ℤ) (result : Option ℕ) → limit ≡ b +ℤ pos 1 → a ≡ n → result ≡ run_of left (λ v. int_lt v limit) step a →
-    result ≡ run_of left (λ v. int_le v b) step n
+pub up_to : (left : ℕ) (limit b step a n : ℤ) (result : Option ℕ) → limit ≡ b +ℤ pos 1 → a ≡ n → result ≡ values_passed left (λ v. int_lt v limit) step a →
+    result ≡ values_passed left (λ v. int_le v b) step n
 up_to left limit b step a n result h e g =
-    g ∙ ap (λ l. run_of left (λ v. int_lt v l) step a) h ∙ ap (run_of left (λ v. int_lt v (b +ℤ pos 1)) step) e
+    g ∙ ap (λ l. values_passed left (λ v. int_lt v l) step a) h ∙ ap (values_passed left (λ v. int_lt v (b +ℤ pos 1)) step) e
     ∙ same_run left (λ v. int_lt v (b +ℤ pos 1)) (λ v. int_le v b) step n (le_lt b)
 
-pub down_to : (left : ℕ) (limit b step a n : ℤ) (result : Option ℕ) → limit ≡ b -ℤ pos 1 → a ≡ n → result ≡ run_of left (λ v. int_lt limit v) step a →
-    result ≡ run_of left (λ v. int_le b v) step n
+pub down_to : (left : ℕ) (limit b step a n : ℤ) (result : Option ℕ) → limit ≡ b -ℤ pos 1 → a ≡ n → result ≡ values_passed left (λ v. int_lt limit v) step a →
+    result ≡ values_passed left (λ v. int_le b v) step n
 down_to left limit b step a n result h e g =
-    g ∙ ap (λ l. run_of left (λ v. int_lt l v) step a) h ∙ ap (run_of left (λ v. int_lt (b -ℤ pos 1) v) step) e
+    g ∙ ap (λ l. values_passed left (λ v. int_lt l v) step a) h ∙ ap (values_passed left (λ v. int_lt (b -ℤ pos 1) v) step) e
     ∙ same_run left (λ v. int_lt (b -ℤ pos 1) v) (λ v. int_le b v) step n (le_gt b)

@@ -8,13 +8,13 @@ use Rattle.forec_tree.specs.Turns.{global_named}
 use Rattle.forec_tree.specs.Rules.{is_none}
 use Rattle.forec_tree.specs.Faults.{item_named}
 use Rattle.loop_check.specs.declared.entry.Entry.{Entry}
-use Rattle.loop_check.specs.Index.{met, noted, entry_from}
+use Rattle.loop_check.specs.Index.{met, noted_item, entry_from}
 
 or_assoc : (a b d : Bool) → ((a || b) || d) ≡ (a || (b || d))
 or_assoc true b d = refl
 or_assoc false b d = refl
 
-global_step : (id at : ℕ) (x : PlainItem) (e : Entry) (rest : Text) → ((noted id at x e).global || global_named id rest) ≡ (e.global || global_named id (x ∷ rest))
+global_step : (id at : ℕ) (x : PlainItem) (e : Entry) (rest : Text) → ((noted_item id at x e).global || global_named id rest) ≡ (e.global || global_named id (x ∷ rest))
 global_step id at (IsGlobal g) e rest =
     elim (g.name.id == id) as (λ b. ((cond b (met at (IsGlobal g) e) e).global || global_named id rest) ≡ (e.global || (b || global_named id rest))) [
       | true ↦ or_assoc e.global true (global_named id rest)
@@ -28,7 +28,7 @@ global_step id at (IsFunction f) e rest =
 
 pub global_is : (id at : ℕ) (e : Entry) (xs : Text) → (entry_from id at e xs).global ≡ (e.global || global_named id xs)
 global_is id at e [] = elim e.global as (λ b. b ≡ (b || false)) [ true ↦ refl | false ↦ refl ]
-global_is id at e (x ∷ xs) = global_is id (suc at) (noted id at x e) xs ∙ global_step id at x e xs
+global_is id at e (x ∷ xs) = global_is id (suc at) (noted_item id at x e) xs ∙ global_step id at x e xs
 
 -- an entry that is known stays
 suc_zero : (p : ℕ) → (suc p == 0) ≡ false
@@ -37,18 +37,18 @@ suc_zero p = grind (arith, nat_tests)
 met_kept : (at p : ℕ) (x : PlainItem) (e : Entry) → e.first ≡ suc p → (met at x e).first ≡ suc p
 met_kept at p x e h = rw (h, suc_zero p) refl
 
-noted_kept : (id at p : ℕ) (x : PlainItem) (e : Entry) → e.first ≡ suc p → (noted id at x e).first ≡ suc p
+noted_kept : (id at p : ℕ) (x : PlainItem) (e : Entry) → e.first ≡ suc p → (noted_item id at x e).first ≡ suc p
 noted_kept id at p x e h =
     elim ((name_of x).id == id) as (λ b. (cond b (met at x e) e).first ≡ suc p) [ true ↦ met_kept at p x e h | false ↦ h ]
 
 pub kept : (id at p : ℕ) (e : Entry) (xs : Text) → e.first ≡ suc p → (entry_from id at e xs).first ≡ suc p
 kept id at p e [] h = h
-kept id at p e (x ∷ xs) h = kept id (suc at) p (noted id at x e) xs (noted_kept id at p x e h)
+kept id at p e (x ∷ xs) h = kept id (suc at) p (noted_item id at x e) xs (noted_kept id at p x e h)
 
 -- the first item of a name, and the items after it
 match_first : (id at : ℕ) (x : PlainItem) (e : Entry) (xs : Text) → e.first ≡ 0 → ((name_of x).id == id) ≡ true → (entry_from id at e (x ∷ xs)).first ≡ suc at
 match_first id at x e xs z h =
-    kept id (suc at) at (noted id at x e) xs (rw h (rw z refl))
+    kept id (suc at) at (noted_item id at x e) xs (rw h (rw z refl))
 
 -- what an item of another name leaves
 skipped : (id at : ℕ) (x : PlainItem) (e : Entry) (xs : Text) → ((name_of x).id == id) ≡ false → entry_from id at e (x ∷ xs) ≡ entry_from id (suc at) e xs

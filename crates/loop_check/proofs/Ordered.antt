@@ -5,7 +5,7 @@ use Rattle.std.proofs.lemmas.Bool.{cases_lt, eqb-true}
 use Rattle.std.proofs.lemmas.List.{take-append-le, get_or_append_left}
 use Rattle.std.proofs.Math.Seq.{take-append_seam, get_or-append_seam, take-suc}
 use Rattle.forec_tree.specs.Faults.{is_in}
-use Rattle.loop_check.specs.Graph.{CalleesFirst, IsOrder, trues, any_waits, Waits, Held, set_at}
+use Rattle.loop_check.specs.Graph.{CalleesFirst, IsOrder, trues, any_waits, MarksUnordered, Held, set_at}
 use Rattle.loop_check.proofs.IndexLemmas.{split}
 
 same_id : (f : ℕ) → (f == f) ≡ true
@@ -119,7 +119,7 @@ push_same (x ∷ xs) zero = refl
 push_same (x ∷ xs) (suc k) = push_same xs k
 
 -- a function is put after the others
-module _ (functions : List ℕ) (calls : ℕ → List ℕ) (marks : List Bool) (order : List ℕ) (f : ℕ) (w : Waits functions calls marks order) where
+module _ (functions : List ℕ) (calls : ℕ → List ℕ) (marks : List Bool) (order : List ℕ) (f : ℕ) (w : MarksUnordered functions calls marks order) where
   right_next : get_or marks f false ≡ true → (g : ℕ) → get_or (set marks f false) g false ≡ (is_in g functions && not (is_in g (order ++ f ∷ [])))
   right_next m g =
       split (f == g)
@@ -147,7 +147,7 @@ module _ (functions : List ℕ) (calls : ℕ → List ℕ) (marks : List Bool) (
       ap (is_in g) t ∙ not_in (is_in g functions) (is_in g order) i (sym no_wait ∙ w.right g))
       (cases_lt k (length order))
 
-  pub visited : get_or marks f false ≡ true → any_waits marks (calls f) ≡ false → Waits functions calls (set marks f false) (order ++ f ∷ [])
+  pub visited : get_or marks f false ≡ true → any_waits marks (calls f) ≡ false → MarksUnordered functions calls (set marks f false) (order ++ f ∷ [])
   visited m a =
       let n = length-append order (f ∷ []) in
       let t = trues_clear marks f m in

@@ -12,7 +12,7 @@ use Rattle.forec_tree.proofs.Fixed.{IsLocal}
 use Rattle.forec_tree.proofs.Agrees.{certain_local}
 use Rattle.loop_check.specs.Graph.{IsOrder, set_at}
 use Rattle.loop_check.proofs.Settled.{settle, out, all_ordered}
-use Rattle.loop_check.specs.Known.{Read, list_at, started_in, is_function, Agrees, Judged}
+use Rattle.loop_check.specs.Known.{Read, list_at, started_in, is_function, AgreesOnFirst, IsRightTable}
 use Rattle.loop_check.specs.Numbered.{put_at}
 use Rattle.loop_check.proofs.IndexLemmas.{split}
 use Rattle.loop_check.proofs.Ordered.{is_in_snoc}
@@ -145,8 +145,8 @@ agrees_not f g xs e = is_in_snoc g f xs ∙ ap (λ b. is_in g xs || b) e ∙ (el
 absurd_bool : {P : Type 0} (b : Bool) → b ≡ true → b ≡ false → P
 absurd_bool b t f = absurd (let q : true ≡ false = sym t ∙ f in cc)
 
-pub agrees_next : (value : ℕ → Bool) (order : List ℕ) (n : ℕ) (table next : ℕ → Bool) (b : Bool) → n < length order → Agrees value order n table →
-    b ≡ value (get_or order n 0) → ((g : ℕ) → next g ≡ cond b (set_at (get_or order n 0) g (table g)) (table g)) → Agrees value order (n + 1) next
+pub agrees_next : (value : ℕ → Bool) (order : List ℕ) (n : ℕ) (table next : ℕ → Bool) (b : Bool) → n < length order → AgreesOnFirst value order n table →
+    b ≡ value (get_or order n 0) → ((g : ℕ) → next g ≡ cond b (set_at (get_or order n 0) g (table g)) (table g)) → AgreesOnFirst value order (n + 1) next
 agrees_next value order n table next b h a v step =
     let f = get_or order n 0 in
     let t : take (n + 1) order ≡ take n order ++ f ∷ [] = let e : n + 1 ≡ suc n = omega arith in ap (λ m. take m order) e ∙ take-suc order n 0 h in
@@ -196,7 +196,7 @@ started_list (Some f) = refl
 
 -- the table of a whole program
 pub all_judged : (text : Text) (functions order : List ℕ) (calls : ℕ → List ℕ) (table : ℕ → Bool) → Read started_in text functions calls → IsOrder functions calls order →
-    ((f : ℕ) → Leads (callees_of text) f f → ⊥) → Judged (certain_step text) order (length order) table → (id : ℕ) → table id ≡ certain_function text id
+    ((f : ℕ) → Leads (callees_of text) f f → ⊥) → IsRightTable (certain_step text) order (length order) table → (id : ℕ) → table id ≡ certain_function text id
 all_judged text functions order calls table r o free judged id =
     let lists = λ (f : ℕ). r.lists f ∙ started_list (find_function f text) in
     let loc : IsLocal calls (certain_step text) =

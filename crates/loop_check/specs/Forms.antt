@@ -9,9 +9,9 @@ use Rattle.loop_check.specs.declared.parts.LoopStep.{LoopStep}
 use Rattle.loop_check.specs.declared.parts.Form.{Form}
 use Rattle.forec_tree.specs.Terms.{Statement, Text}
 
-abbrev pub pair_of : Option Start → Option form.Pair
-pair_of None = None
-pair_of (Some a) = Some (record { id = a.id; number = a.number })
+abbrev pub start_pair : Option Start → Option form.VariableNumber
+start_pair None = None
+start_pair (Some a) = Some (record { id = a.id; number = a.number })
 
 abbrev pub test_from : Option Test → Option form.Test
 test_from None = None
@@ -40,10 +40,10 @@ fits_way _ step = false
 -- what a form tells, where no global is in the way
 abbrev pub run_form : Form → Option ℕ
 run_form f = elim f.test [
-  | Lt ↦ form.run_of form.most_values (λ v. int_lt v f.bound) (pos f.by) f.number
-  | Le ↦ form.run_of form.most_values (λ v. int_le v f.bound) (pos f.by) f.number
-  | Gt ↦ form.run_of form.most_values (λ v. int_lt f.bound v) (neg_ℤ (pos f.by)) f.number
-  | Ge ↦ form.run_of form.most_values (λ v. int_le f.bound v) (neg_ℤ (pos f.by)) f.number
+  | Lt ↦ form.values_passed form.most_values (λ v. int_lt v f.bound) (pos f.by) f.number
+  | Le ↦ form.values_passed form.most_values (λ v. int_le v f.bound) (pos f.by) f.number
+  | Gt ↦ form.values_passed form.most_values (λ v. int_lt f.bound v) (neg_ℤ (pos f.by)) f.number
+  | Ge ↦ form.values_passed form.most_values (λ v. int_le f.bound v) (neg_ℤ (pos f.by)) f.number
   | _ ↦ None
 ]
 
@@ -54,7 +54,7 @@ turns_unless text (Some f) = cond (form.global_named f.id text) None (run_form f
 -- the three parts of a form with a body
 abbrev pub FormOf : Option Form → Start → Test → LoopStep → Statement → Type 0
 FormOf r a t s body =
-    (text : Text) → form.turns_from text body (pair_of (Some a)) (test_from (Some t)) (step_from (Some s)) ≡ turns_unless text r
+    (text : Text) → form.turns_by_parts text body (start_pair (Some a)) (test_from (Some t)) (step_from (Some s)) ≡ turns_unless text r
 
 -- what is inferred of a statement
 abbrev pub HasForm : Option Form → Statement → Type 0

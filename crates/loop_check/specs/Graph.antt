@@ -39,7 +39,7 @@ any_waits marks [] = false
 any_waits marks (g ∷ gs) = slice_index_or marks g false || any_waits marks gs
 
 -- the marks of the functions that are not in the order yet
-pub record Waits (functions : List ℕ) (calls : ℕ → List ℕ) (marks : List Bool) (order : List ℕ) : Type 0 where
+pub record MarksUnordered (functions : List ℕ) (calls : ℕ → List ℕ) (marks : List Bool) (order : List ℕ) : Type 0 where
   pub right : (g : ℕ) → slice_index_or marks g false ≡ (is_in g functions && not (is_in g order))
   pub first : CalleesFirst functions calls order
   pub short : trues marks + length order ≤ length functions

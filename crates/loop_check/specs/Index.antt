@@ -5,8 +5,8 @@ use Rattle.forec_tree.specs.Scopes.{name_of}
 use Rattle.loop_check.specs.declared.entry.Entry.{Entry}
 
 -- no item of a name
-abbrev pub blank : Entry
-blank = record { first = 0; global = false }
+abbrev pub blank_entry : Entry
+blank_entry = record { first = 0; global = false }
 
 abbrev pub is_global_item : PlainItem → Bool
 is_global_item (IsGlobal g) = true
@@ -17,9 +17,9 @@ abbrev pub met : ℕ → PlainItem → Entry → Entry
 met at x e = record { first = cond (e.first == 0) (suc at) e.first; global = e.global || is_global_item x }
 
 -- what an item says of a name
-abbrev pub noted : ℕ → ℕ → PlainItem → Entry → Entry
-noted id at x e = cond ((name_of x).id == id) (met at x e) e
+abbrev pub noted_item : ℕ → ℕ → PlainItem → Entry → Entry
+noted_item id at x e = cond ((name_of x).id == id) (met at x e) e
 
 abbrev pub entry_from : ℕ → ℕ → Entry → Text → Entry
 entry_from id at e [] = e
-entry_from id at e (x ∷ rest) = entry_from id (suc at) (noted id at x e) rest
+entry_from id at e (x ∷ rest) = entry_from id (suc at) (noted_item id at x e) rest

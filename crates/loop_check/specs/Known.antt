@@ -39,17 +39,17 @@ pub record Read (of : PlainFunction → List ℕ) (text : Text) (functions : Lis
   pub few : length functions ≤ length text
 
 -- one more item with its list, whatever list of a function it is
-abbrev pub Adds : Text → Text → PlainItem → List ℕ → List ℕ → List ℕ → (ℕ → List ℕ) → (ℕ → List ℕ) → Type 0
-Adds before after item list functions functions_after calls calls_after =
+abbrev pub AddsItem : Text → Text → PlainItem → List ℕ → List ℕ → List ℕ → (ℕ → List ℕ) → (ℕ → List ℕ) → Type 0
+AddsItem before after item list functions functions_after calls calls_after =
     (of : PlainFunction → List ℕ) → IsListOf of item list → Read of before functions calls → Read of after functions_after calls_after
 
 -- right at the first so many of an order, and false elsewhere
-pub record Agrees (value : ℕ → Bool) (order : List ℕ) (n : ℕ) (table : ℕ → Bool) : Type 0 where
+pub record AgreesOnFirst (value : ℕ → Bool) (order : List ℕ) (n : ℕ) (table : ℕ → Bool) : Type 0 where
   pub inside : (g : ℕ) → is_in g (take n order) ≡ true → table g ≡ value g
   pub outside : (g : ℕ) → is_in g (take n order) ≡ false → table g ≡ false
 
 -- a table of answers is right for the first so many functions of an order, if each is judged by those before it
-abbrev pub Judged : ((ℕ → Bool) → ℕ → Bool) → List ℕ → ℕ → (ℕ → Bool) → Type 0
-Judged step order n table =
-    (value : ℕ → Bool) → ((k : ℕ) (a : ℕ → Bool) → k < length order → Agrees value order k a → step a (slice_index_or order k 0) ≡ value (slice_index_or order k 0)) →
-    Agrees value order n table
+abbrev pub IsRightTable : ((ℕ → Bool) → ℕ → Bool) → List ℕ → ℕ → (ℕ → Bool) → Type 0
+IsRightTable step order n table =
+    (value : ℕ → Bool) → ((k : ℕ) (a : ℕ → Bool) → k < length order → AgreesOnFirst value order k a → step a (slice_index_or order k 0) ≡ value (slice_index_or order k 0)) →
+    AgreesOnFirst value order n table

@@ -5,5 +5,5 @@ use Rattle.forec_tree.specs.Terms.{Text}
 use Rattle.loop_check.specs.declared.index.Index.{Index}
 
 -- the items of an index
-abbrev pub text_of : Index → Text
-text_of i = map plain_item i.items.now
+abbrev pub indexed_text : Index → Text
+indexed_text i = map plain_item i.items.now

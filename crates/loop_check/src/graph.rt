@@ -2,7 +2,7 @@
 
 ghost use Rattle.std.specs.Prelude.{◌≡◌, ◌+◌, ◌<◌, ◌≤◌, ℕ, not, true, false, length, slice_index_or, IfOk, OnOk, [], List};
 ghost use Rattle.forec_tree.specs.Faults.{is_in};
-ghost use Rattle.loop_check.specs.Graph.{callees, trues, any_waits, Waits, Held, IsOrder};
+ghost use Rattle.loop_check.specs.Graph.{callees, trues, any_waits, MarksUnordered, Held, IsOrder};
 ghost use Rattle.loop_check.specs.Graph as plain;
 
 use crate::components::find_components;
@@ -55,8 +55,8 @@ fn visit(
     marks: &mut Vec<bool>,
     order: &mut Vec<u32>,
 ) -> Result<bool, OutOfMemory>
-    requires { Waits functions.now (callees calls.now) marks.old.items order.old.items }
-    ensures waits { OnOk result (Waits functions.now (callees calls.now) marks.new.items order.new.items) }
+    requires { MarksUnordered functions.now (callees calls.now) marks.old.items order.old.items }
+    ensures waits { OnOk result (MarksUnordered functions.now (callees calls.now) marks.new.items order.new.items) }
     ensures moved { IfOk result (λ moved. moved ≡ true → trues marks.new.items < trues marks.old.items) }
     ensures marks { IfOk result (λ moved. moved ≡ false → marks.new.items ≡ marks.old.items) }
     ensures held { IfOk result (λ moved. moved ≡ false → slice_index_or marks.old.items f false ≡ true
@@ -80,8 +80,8 @@ fn round(
     marks: &mut Vec<bool>,
     order: &mut Vec<u32>,
 ) -> Result<bool, OutOfMemory>
-    requires { Waits functions.now (callees calls.now) marks.old.items order.old.items }
-    ensures waits { OnOk result (Waits functions.now (callees calls.now) marks.new.items order.new.items) }
+    requires { MarksUnordered functions.now (callees calls.now) marks.old.items order.old.items }
+    ensures waits { OnOk result (MarksUnordered functions.now (callees calls.now) marks.new.items order.new.items) }
     ensures moved { IfOk result (λ moved. moved ≡ true → trues marks.new.items < trues marks.old.items) }
     ensures marks { IfOk result (λ moved. moved ≡ false → marks.new.items ≡ marks.old.items) }
     ensures held { IfOk result (λ moved. moved ≡ false → Held functions.now (callees calls.now) marks.new.items (length functions.now)) }

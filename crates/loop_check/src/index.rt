@@ -5,7 +5,7 @@ ghost use Rattle.forec_tree.specs.Plain.{plain_item};
 ghost use Rattle.forec_tree.specs.Scopes.{name_of, find_item};
 ghost use Rattle.forec_tree.specs.Turns.{global_named};
 ghost use Rattle.forec_tree.specs.Faults.{item_named};
-ghost use Rattle.loop_check.specs.Index.{blank, entry_from, noted};
+ghost use Rattle.loop_check.specs.Index.{blank_entry, entry_from, noted_item};
 ghost use Rattle.loop_check.specs.Index as plain;
 
 use crate::entry::Entry;
@@ -21,11 +21,11 @@ use std::alloc::Global;
 pub struct Index<'p> {
     items: &'p [Item],
     entries: Vec<Entry>,
-    ghost right: { (id : ℕ) → slice_index_or entries.items id blank ≡ entry_from id 0 blank (map plain_item items.now) },
+    ghost right: { (id : ℕ) → slice_index_or entries.items id blank_entry ≡ entry_from id 0 blank_entry (map plain_item items.now) },
 }
 
 fn blank() -> Entry
-    ensures { result ≡ plain.blank }
+    ensures { result ≡ plain.blank_entry }
 {
     Entry {
         first: 0,
@@ -36,7 +36,7 @@ fn blank() -> Entry
 /// Lengthens a table, so that it has an entry of this number.
 fn grow(entries: &mut Vec<Entry>, id: usize) -> Result<(), OutOfMemory>
     ensures long { OnOk result (id < length entries.new.items) }
-    ensures same { (k : ℕ) → slice_index_or entries.new.items k plain.blank ≡ slice_index_or entries.old.items k plain.blank }
+    ensures same { (k : ℕ) → slice_index_or entries.new.items k plain.blank_entry ≡ slice_index_or entries.old.items k plain.blank_entry }
 {
     while entries.len() <= id {
         entries.push(blank())?;
@@ -46,8 +46,8 @@ fn grow(entries: &mut Vec<Entry>, id: usize) -> Result<(), OutOfMemory>
 
 fn note(entries: &mut Vec<Entry>, at: usize, item: &Item) -> Result<(), OutOfMemory>
     requires { at < 2 ^ 64 - 1 }
-    ensures { OnOk result ((k : ℕ) → slice_index_or entries.new.items k plain.blank
-        ≡ noted k at (plain_item item.now) (slice_index_or entries.old.items k plain.blank)) }
+    ensures { OnOk result ((k : ℕ) → slice_index_or entries.new.items k plain.blank_entry
+        ≡ noted_item k at (plain_item item.now) (slice_index_or entries.old.items k plain.blank_entry)) }
 {
     let id = item_name(item).id as usize;
     grow(entries, id)?;
@@ -83,11 +83,11 @@ pub fn item_name(item: &Item) -> Name
 }
 
 impl<'p> Index<'p> {
-    ghost use Rattle.loop_check.specs.Views.{text_of};
+    ghost use Rattle.loop_check.specs.Views.{indexed_text};
 
     /// Looks at each item once.
     pub fn of(alloc: Global, items: &'p [Item]) -> Result<Index<'p>, OutOfMemory>
-        ensures { IfOk result (λ index. text_of index ≡ map plain_item items.now) }
+        ensures { IfOk result (λ index. indexed_text index ≡ map plain_item items.now) }
     {
         let mut entries = Vec::new(alloc);
         for (at, item) in items.iter().enumerate() {
@@ -97,14 +97,14 @@ impl<'p> Index<'p> {
     }
 
     fn entry(&self, id: u32) -> Entry
-        ensures { result ≡ entry_from id 0 plain.blank (text_of self.now) }
+        ensures { result ≡ entry_from id 0 plain.blank_entry (indexed_text self.now) }
     {
         value_at(&self.entries, id, blank())
     }
 
     /// The first item of a name.
     pub fn find(&self, id: u32) -> Option<&'p Item>
-        ensures { option_map (λ x. plain_item x.now) result ≡ find_item id (text_of self.now) }
+        ensures { option_map (λ x. plain_item x.now) result ≡ find_item id (indexed_text self.now) }
     {
         let first = self.entry(id).first;
         if first == 0 {
@@ -115,7 +115,7 @@ impl<'p> Index<'p> {
 
     /// Where the first item of a name stands.
     pub fn position(&self, id: u32) -> Option<usize>
-        ensures { MatchOption result (find_item id (text_of self.now) ≡ None) (λ at. find_item id (text_of self.now) ≡ slice_get (text_of self.now) at) }
+        ensures { MatchOption result (find_item id (indexed_text self.now) ≡ None) (λ at. find_item id (indexed_text self.now) ≡ slice_get (indexed_text self.now) at) }
     {
         let first = self.entry(id).first;
         if first == 0 {
@@ -126,7 +126,7 @@ impl<'p> Index<'p> {
 
     /// Whether the first so many items have one of this name.
     pub fn named_before(&self, id: u32, at: usize) -> bool
-        ensures { result ≡ item_named id (take at (text_of self.now)) }
+        ensures { result ≡ item_named id (take at (indexed_text self.now)) }
     {
         let first = self.entry(id).first;
         first != 0 && first <= at
@@ -134,14 +134,14 @@ impl<'p> Index<'p> {
 
     /// Whether a global has the name.
     pub fn is_global(&self, id: u32) -> bool
-        ensures { result ≡ global_named id (text_of self.now) }
+        ensures { result ≡ global_named id (indexed_text self.now) }
     {
         self.entry(id).global
     }
 
     /// The items, in order.
     pub fn items(&self) -> &'p [Item]
-        ensures { map plain_item result.now ≡ text_of self.now }
+        ensures { map plain_item result.now ≡ indexed_text self.now }
     {
         self.items
     }

@@ -4,7 +4,7 @@ ghost use Rattle.std.specs.Prelude.{◌≡◌};
 ghost use Rattle.forec_tree.specs.Plain as plain;
 ghost use Rattle.forec_tree.specs.Turns.{inferred};
 ghost use Rattle.forec_tree.specs.Pauses as pauses;
-ghost use Rattle.loop_check.specs.Views.{text_of};
+ghost use Rattle.loop_check.specs.Views.{indexed_text};
 ghost use Rattle.loop_check.specs.Known.{known};
 
 use crate::index::Index;
@@ -14,7 +14,7 @@ use forec_tree::{Branch, Expr, ExprKind, Stmt, StmtKind};
 
 /// The number of turns that the form of a `for` tells.
 pub fn turns_of(index: &Index<'_>, s: &Stmt) -> Option<u32>
-    ensures { result ≡ inferred (text_of index.now) (plain.statement s.now) }
+    ensures { result ≡ inferred (indexed_text index.now) (plain.statement s.now) }
 {
     match form_of(s) {
         None => None,
@@ -68,7 +68,7 @@ pub fn is_known(called: &[bool], id: u32) -> bool
 /// Whether a statement is certain to pause, where `called` says it of each function by its name.
 #[cycle(certain)]
 pub fn is_certain(index: &Index<'_>, called: &[bool], s: &Stmt) -> bool
-    ensures { result ≡ pauses.certain_by (text_of index.now) (known called.now) (plain.statement s.now) }
+    ensures { result ≡ pauses.certain_by (indexed_text index.now) (known called.now) (plain.statement s.now) }
 {
     match &s.what {
         StmtKind::Nothing => false,
@@ -118,7 +118,7 @@ pub fn is_certain(index: &Index<'_>, called: &[bool], s: &Stmt) -> bool
 /// Whether one of some statements is certain to pause.
 #[cycle(certain)]
 pub fn any_certain(index: &Index<'_>, called: &[bool], list: &[Stmt]) -> bool
-    ensures { result ≡ pauses.some_certain (text_of index.now) (known called.now) (plain.statements list.now) }
+    ensures { result ≡ pauses.some_certain (indexed_text index.now) (known called.now) (plain.statements list.now) }
 {
     for s in list {
         if is_certain(index, called, s) {
@@ -130,7 +130,7 @@ pub fn any_certain(index: &Index<'_>, called: &[bool], list: &[Stmt]) -> bool
 
 #[cycle(certain)]
 fn branch_certain(index: &Index<'_>, called: &[bool], list: &[Branch]) -> bool
-    ensures { result ≡ pauses.branch_certain (text_of index.now) (known called.now) (plain.branches list.now) }
+    ensures { result ≡ pauses.branch_certain (indexed_text index.now) (known called.now) (plain.branches list.now) }
 {
     for branch in list {
         match branch {

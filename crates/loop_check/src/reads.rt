@@ -4,7 +4,7 @@ ghost use Rattle.std.specs.Prelude.{◌≡◌, map};
 ghost use Rattle.forec_tree.specs.Plain as plain;
 ghost use Rattle.forec_tree.specs.Turns as form;
 ghost use Rattle.forec_tree.specs.Plain.{perhaps_of};
-ghost use Rattle.loop_check.specs.Forms.{pair_of, test_from, step_from};
+ghost use Rattle.loop_check.specs.Forms.{start_pair, test_from, step_from};
 
 use crate::parts::{LoopStep, Start, Test};
 use forec_base::{Binary, Unary, unary};
@@ -33,7 +33,7 @@ fn negated(e: &Expr) -> Option<i32>
 }
 
 fn plain_target(target: &Target) -> Option<u32>
-    ensures { result ≡ form.plain_target (plain.written target.now) }
+    ensures { result ≡ form.plain_target (plain.written_target target.now) }
 {
     match &target.index {
         None => Some(target.name.id),
@@ -42,7 +42,7 @@ fn plain_target(target: &Target) -> Option<u32>
 }
 
 fn start_with(id: Option<u32>, value: &Expr) -> Option<Start>
-    ensures { pair_of result ≡ form.paired_with id (form.signed_number (plain.term value.now)) }
+    ensures { start_pair result ≡ form.paired_with id (form.signed_number (plain.term value.now)) }
 {
     match (id, signed_number(value)) {
         (Some(id), Some(number)) => Some(Start { id, number }),
@@ -51,7 +51,7 @@ fn start_with(id: Option<u32>, value: &Expr) -> Option<Start>
 }
 
 fn start_local(list: &[Local]) -> Option<Start>
-    ensures { pair_of result ≡ form.start_local (map plain.declared list.now) }
+    ensures { start_pair result ≡ form.start_local (map plain.declared list.now) }
 {
     match list {
         [local] => start_declared(local),
@@ -60,7 +60,7 @@ fn start_local(list: &[Local]) -> Option<Start>
 }
 
 fn start_declared(local: &Local) -> Option<Start>
-    ensures { pair_of result ≡ form.paired_term local.now.name.id (form.one_value local.now.length (plain.terms local.now.values)) }
+    ensures { start_pair result ≡ form.paired_term local.now.name.id (form.single_value local.now.length (plain.terms local.now.values)) }
 {
     if local.length.is_some() {
         return None;
@@ -72,7 +72,7 @@ fn start_declared(local: &Local) -> Option<Start>
 }
 
 pub fn start_of(start: &Option<Box<Stmt>>) -> Option<Start>
-    ensures { pair_of result ≡ form.start_of (perhaps_of start.now) }
+    ensures { start_pair result ≡ form.start_of (perhaps_of start.now) }
 {
     match start {
         None => None,
@@ -81,7 +81,7 @@ pub fn start_of(start: &Option<Box<Stmt>>) -> Option<Start>
 }
 
 fn start_statement(s: &Stmt) -> Option<Start>
-    ensures { pair_of result ≡ form.start_statement (plain.statement s.now) }
+    ensures { start_pair result ≡ form.start_statement (plain.statement s.now) }
 {
     match &s.what {
         StmtKind::Assign {
@@ -131,7 +131,7 @@ fn read_of(e: &Expr) -> Option<u32>
 }
 
 fn number_of(e: &Expr) -> Option<i32>
-    ensures { result ≡ form.number_of (plain.term e.now) }
+    ensures { result ≡ form.literal_number (plain.term e.now) }
 {
     match &e.what {
         ExprKind::Number { value } => Some(*value),
@@ -176,7 +176,7 @@ fn step_with(id: Option<u32>, op: Binary, by: Option<i32>) -> Option<LoopStep>
 }
 
 fn step_by_sum(target: &Target, value: &Expr) -> Option<LoopStep>
-    ensures { step_from result ≡ form.step_by_sum (plain.written target.now) (plain.term value.now) }
+    ensures { step_from result ≡ form.step_by_sum (plain.written_target target.now) (plain.term value.now) }
 {
     match &value.what {
         ExprKind::Binary { op, left, right } => {

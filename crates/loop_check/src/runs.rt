@@ -72,7 +72,7 @@ fn run_up(from: i64, limit: i64, by: u32) -> Option<u32>
     requires from { FitsSigned w32 from }
     requires low { negsuc 2147483648 ≤ℤ limit }
     requires high { limit ≤ℤ pos 2147483648 }
-    ensures { result ≡ form.run_of form.most_values (λ v. int_lt v limit) (pos by) from }
+    ensures { result ≡ form.values_passed form.most_values (λ v. int_lt v limit) (pos by) from }
 {
     if limit <= from {
         return Some(0);
@@ -94,7 +94,7 @@ fn run_down(from: i64, limit: i64, by: u32) -> Option<u32>
     requires from { FitsSigned w32 from }
     requires low { negsuc 2147483648 ≤ℤ limit }
     requires high { limit ≤ℤ pos 2147483648 }
-    ensures { result ≡ form.run_of form.most_values (λ v. int_lt limit v) (neg_ℤ (pos by)) from }
+    ensures { result ≡ form.values_passed form.most_values (λ v. int_lt limit v) (neg_ℤ (pos by)) from }
 {
     if from <= limit {
         return Some(0);

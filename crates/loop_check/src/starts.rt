@@ -10,7 +10,7 @@ use forec_tree::{Branch, Stmt, StmtKind};
 
 #[cycle(start)]
 fn started(list: &mut Vec<u32>, s: &Stmt) -> Result<(), OutOfMemory>
-    ensures { OnOk result (list.new.items ≡ list.old.items ++ pauses.started (plain.statement s.now)) }
+    ensures { OnOk result (list.new.items ≡ list.old.items ++ pauses.started_names (plain.statement s.now)) }
 {
     match &s.what {
         StmtKind::Group { body } => all_started(list, body.as_slice()),

@@ -6,8 +6,8 @@ ghost use Rattle.forec_tree.specs.Faults.{Leads};
 ghost use Rattle.forec_tree.specs.Turns.{inferred};
 ghost use Rattle.forec_tree.specs.Pauses as pauses;
 ghost use Rattle.loop_check.specs.Graph.{callees};
-ghost use Rattle.loop_check.specs.Views.{text_of};
-ghost use Rattle.loop_check.specs.Known.{known, started_in, FunctionOf, IsListOf, Read, Adds, Judged};
+ghost use Rattle.loop_check.specs.Views.{indexed_text};
+ghost use Rattle.loop_check.specs.Known.{known, started_in, FunctionOf, IsListOf, Read, AddsItem, IsRightTable};
 ghost use Rattle.loop_check.specs.Numbered.{put_at};
 
 use crate::graph::{mark, order};
@@ -20,7 +20,7 @@ use std::alloc::Global;
 
 /// The function of a name.
 pub fn find_function<'p>(index: &Index<'p>, id: u32) -> Option<&'p Function>
-    ensures { FunctionOf result (pauses.find_function id (text_of index.now)) }
+    ensures { FunctionOf result (pauses.find_function id (indexed_text index.now)) }
 {
     match index.find(id) {
         Some(Item::Function { function }) => Some(function),
@@ -56,8 +56,8 @@ pub fn add_function(
     list: Vec<u32>,
     calls: &mut Calls,
 ) -> Result<(), OutOfMemory>
-    requires { slice_get (text_of index.now) at ≡ Some (plain.plain_item item.now) }
-    ensures { OnOk result (Adds (take at (text_of index.now)) (take (at + 1) (text_of index.now)) (plain.plain_item item.now) list.items
+    requires { slice_get (indexed_text index.now) at ≡ Some (plain.plain_item item.now) }
+    ensures { OnOk result (AddsItem (take at (indexed_text index.now)) (take (at + 1) (indexed_text index.now)) (plain.plain_item item.now) list.items
         calls.old.functions.items calls.new.functions.items (callees calls.old.lists.items) (callees calls.new.lists.items)) }
 {
     let id = item_name(item).id;
@@ -91,9 +91,9 @@ fn add_started(
     item: &Item,
     calls: &mut Calls,
 ) -> Result<(), OutOfMemory>
-    requires { slice_get (text_of index.now) at ≡ Some (plain.plain_item item.now) }
-    ensures { OnOk result (Read started_in (take at (text_of index.now)) calls.old.functions.items (callees calls.old.lists.items)
-        → Read started_in (take (at + 1) (text_of index.now)) calls.new.functions.items (callees calls.new.lists.items)) }
+    requires { slice_get (indexed_text index.now) at ≡ Some (plain.plain_item item.now) }
+    ensures { OnOk result (Read started_in (take at (indexed_text index.now)) calls.old.functions.items (callees calls.old.lists.items)
+        → Read started_in (take (at + 1) (indexed_text index.now)) calls.new.functions.items (callees calls.new.lists.items)) }
 {
     let list = started_list(alloc, item)?;
     add_function(alloc, index, at, item, list, calls)?;
@@ -102,7 +102,7 @@ fn add_started(
 
 /// The functions of a program, and those that the statements of each one call or start.
 pub fn read_calls(alloc: Global, index: &Index<'_>) -> Result<Calls, OutOfMemory>
-    ensures { IfOk result (λ calls. Read started_in (text_of index.now) calls.functions.items (callees calls.lists.items)) }
+    ensures { IfOk result (λ calls. Read started_in (indexed_text index.now) calls.functions.items (callees calls.lists.items)) }
 {
     let mut calls = Calls {
         functions: Vec::new(alloc),
@@ -115,7 +115,7 @@ pub fn read_calls(alloc: Global, index: &Index<'_>) -> Result<Calls, OutOfMemory
 }
 
 fn function_certain(index: &Index<'_>, called: &[bool], id: u32) -> bool
-    ensures { result ≡ pauses.certain_step (text_of index.now) (known called.now) id }
+    ensures { result ≡ pauses.certain_step (indexed_text index.now) (known called.now) id }
 {
     match find_function(index, id) {
         None => false,
@@ -130,7 +130,7 @@ fn function_certain(index: &Index<'_>, called: &[bool], id: u32) -> bool
 
 /// Which functions are certain to pause.
 fn judged(alloc: Global, index: &Index<'_>, order: &[u32]) -> Result<Vec<bool>, OutOfMemory>
-    ensures { IfOk result (λ called. Judged (pauses.certain_step (text_of index.now)) order.now (length order.now) (known called.items)) }
+    ensures { IfOk result (λ called. IsRightTable (pauses.certain_step (indexed_text index.now)) order.now (length order.now) (known called.items)) }
 {
     let mut called = Vec::new(alloc);
     for f in order {
@@ -154,7 +154,7 @@ impl<'p> Pauses<'p> {
     /// Judges each function of a program in which none reaches itself by statements and branches.
     pub fn of(alloc: Global, items: &'p [Item]) -> Result<Pauses<'p>, OutOfMemory>
         requires { (f : ℕ) → Leads (pauses.callees_of (map plain.plain_item items.now)) f f → ⊥ }
-        ensures { IfOk result (λ p. text_of p.index ≡ map plain.plain_item items.now) }
+        ensures { IfOk result (λ p. indexed_text p.index ≡ map plain.plain_item items.now) }
     {
         let index = Index::of(alloc, items)?;
         let calls = read_calls(alloc, &index)?;
@@ -165,21 +165,21 @@ impl<'p> Pauses<'p> {
 
     /// Whether the body of the void function of a name is certain to pause.
     pub fn function(&self, id: u32) -> bool
-        ensures { result ≡ pauses.certain_function (text_of self.now.index) id }
+        ensures { result ≡ pauses.certain_function (indexed_text self.now.index) id }
     {
         is_known(&self.called, id)
     }
 
     /// Whether a statement is certain to pause.
     pub fn certain(&self, s: &Stmt) -> bool
-        ensures { result ≡ pauses.certain (text_of self.now.index) (plain.statement s.now) }
+        ensures { result ≡ pauses.certain (indexed_text self.now.index) (plain.statement s.now) }
     {
         is_certain(&self.index, &self.called, s)
     }
 
     /// The number of turns that the form of a `for` tells.
     pub fn turns(&self, s: &Stmt) -> Option<u32>
-        ensures { result ≡ inferred (text_of self.now.index) (plain.statement s.now) }
+        ensures { result ≡ inferred (indexed_text self.now.index) (plain.statement s.now) }
     {
         turns_of(&self.index, s)
     }

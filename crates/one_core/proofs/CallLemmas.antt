@@ -11,7 +11,7 @@ use Rattle.thread_code.specs.Machine.{Machine}
 use Rattle.thread_code.specs.Alone.{CodeAlone, code_engine}
 use Rattle.thread_code.proofs.Steady.{code_steady}
 use Rattle.core_machine.specs.declared.thread.Thread.{Thread}
-use Rattle.core_machine.specs.Threads.{Loaded, StandsFor, IsResting, HasReply, HasPaused, Gives}
+use Rattle.core_machine.specs.Threads.{Loaded, StandsFor, IsResting, HasReply, HasPaused, RepliesToLast}
 use Rattle.core_machine.specs.Forks.{branch_at, jobs_at}
 use Rattle.forec_kernel.specs.Packed.{IsReply}
 use Rattle.tick_jobs.specs.Branches.{IsBranchOf}
@@ -19,11 +19,11 @@ use Rattle.tick_jobs.specs.Writing.{heard}
 use Rattle.tick_jobs.proofs.Lists.{get_set, get_set_else, some_once}
 use Rattle.tick_jobs.proofs.Branching.{branch_above, parent_once, has_parent}
 use Rattle.tick_jobs.proofs.Once.{answers_once}
-use Rattle.one_core.specs.Seats.{Seated, IsFitted, Sits, Leaves}
+use Rattle.one_core.specs.Seats.{Seated, HasAllSeats, HoldsThread, KeepsSeatsBelow}
 use Rattle.tick_jobs.specs.Told.{Book, IsAsleep, MayTell}
-use Rattle.one_core.specs.Told.{tell, HasDone, InJob, KeepsBook, by_book}
-use Rattle.one_core.specs.Resting.{LastReply, none, last, Rests, RestAbove, HasBegun, Works, StaysAtWork}
-use Rattle.one_core.specs.Called.{CanCall, HasHeard, WasCalled, HasCalled}
+use Rattle.one_core.specs.Told.{tell, HasDoneByBook, InJobByBook, KeepsBook, by_book}
+use Rattle.one_core.specs.Resting.{LastJobReply, none, last, Rests, RestAbove, HasBegun, IsAtJob, StaysAtWork}
+use Rattle.one_core.specs.Called.{CanCall, BranchHasReply, WasCalled, BranchHasReplied}
 use Rattle.core_machine.specs.Direct.{RepliesBy, CanTake, GivesFor}
 use Rattle.one_core.proofs.ReplyPackets.{reply_packet, is_reply, reply_once}
 use Rattle.one_core.proofs.TellLemmas.{tell_here, tell_else, done_keeps, rests_keeps}
@@ -37,11 +37,11 @@ abbrev pub seated : CodeParts → List (Option Thread) → Seated
 seated code threads = record { code = code; threads = threads }
 
 -- another thread in a seat
-pub fitted_set : (code : CodeParts) (seats : List (Option Thread)) → IsFitted (seated code seats) → (t : ℕ) (y : Option Thread) → IsFitted (seated code (slice_set seats t y))
+pub fitted_set : (code : CodeParts) (seats : List (Option Thread)) → HasAllSeats (seated code seats) → (t : ℕ) (y : Option Thread) → HasAllSeats (seated code (slice_set seats t y))
 fitted_set code seats f t y = record { valid = f.valid; seats = length-set seats t y ∙ f.seats }
 
 -- it has heard what the thread in the seat replies
-pub gave : (code : CodeParts) (seats : List (Option Thread)) (branch : ℕ) (h : Thread) (r : Reply) → HasHeard (seated code (slice_set seats branch (Some h))) branch r → RepliesBy h r
+pub gave : (code : CodeParts) (seats : List (Option Thread)) (branch : ℕ) (h : Thread) (r : Reply) → BranchHasReply (seated code (slice_set seats branch (Some h))) branch r → RepliesBy h r
 gave code seats branch h r heard =
     let lt = slice_get_within (slice_set seats branch (Some h)) branch (Some heard.thread) heard.sits.at in
     let count = length-set seats branch (Some h) in
@@ -63,16 +63,16 @@ no_answer c t n r a = within (n - t) a
     within zero h = nothing h.exchanges h.outputs (sym h.jobs_are) h.runs h.gives
     within (suc k) h = nothing h.exchanges h.outputs (sym h.jobs_are) h.runs h.gives
 
-paused_then : (c : PlainCode) (t : ℕ) (jobs : List Job) (h : Thread) → LastReply c t jobs h → IsAsleep c t jobs → HasPaused h
+paused_then : (c : PlainCode) (t : ℕ) (jobs : List Job) (h : Thread) → LastJobReply c t jobs h → IsAsleep c t jobs → HasPaused h
 paused_then c t jobs h (none e) p = absurd (no_answer c t (length c.threads) (WasPaused p.copies p.units) (subst (λ js. Answers (CodeAlone c) (length c.threads) t js (WasPaused p.copies p.units)) e p.answers))
 paused_then c t jobs h (last r answers paused) p =
     paused p.copies p.units (answers_once (λ t. Machine) (code_engine c) (code_steady c) (length c.threads) t jobs r (WasPaused p.copies p.units) answers p.answers)
 
-takes : (c : PlainCode) (book : Book) (t : ℕ) (h : Thread) → LastReply c t (book t) h → (j : Job) → MayTell c book t j → CanTake h j
+takes : (c : PlainCode) (book : Book) (t : ℕ) (h : Thread) → LastJobReply c t (book t) h → (j : Job) → MayTell c book t j → CanTake h j
 takes c book t h l (Start args values a) may = tt
 takes c book t h l (Wake values a) may = paused_then c t (book t) h l may
 
-module _ (code : CodeParts) (seats : List (Option Thread)) (fitted : IsFitted (seated code seats)) (h : Thread) (k branch : ℕ) (number : slice_get h.branches.numbers k ≡ Some branch) where
+module _ (code : CodeParts) (seats : List (Option Thread)) (fitted : HasAllSeats (seated code seats)) (h : Thread) (k branch : ℕ) (number : slice_get h.branches.numbers k ≡ Some branch) where
   abbrev c : PlainCode
   c = plain_code code
 
@@ -156,7 +156,7 @@ module _ (code : CodeParts) (seats : List (Option Thread)) (fitted : IsFitted (s
               let count = length-set seats branch y in
               rests_keeps s0 s1 book book j refl (get_set_else seats branch j y (λ e. omega (arith, e, lt, n))) refl (λ i own. refl) (can.above j (omega (arith, lt, n, a)) (omega (arith, less, count)))
 
-          pub begun : (i : InJob c h1 book (book branch) job) × (i.log.before ≡ [])
+          pub begun : (i : InJobByBook c h1 book (book branch) job) × (i.log.before ≡ [])
           begun =
               let n = number_is in
               let lt = inside in
@@ -167,9 +167,9 @@ module _ (code : CodeParts) (seats : List (Option Thread)) (fitted : IsFitted (s
           has_begun = record { book = book; above = above1; jobs = book branch; job = job; in_job = begun.0; first = begun.1 }
 
           -- it has its reply
-          module _ (s3 : Seated) (leaves3 : Leaves h1.number s1 s3) (h2 : Thread) (number2 : h2.number ≡ h1.number) (loaded2 : Loaded c h2) (replied : HasReply h2) (done3 : StaysAtWork s1 h1 s3 h2)
+          module _ (s3 : Seated) (leaves3 : KeepsSeatsBelow h1.number s1 s3) (h2 : Thread) (number2 : h2.number ≡ h1.number) (loaded2 : Loaded c h2) (replied : HasReply h2) (done3 : StaysAtWork s1 h1 s3 h2)
               (code2 : CodeParts) (seats2 : List (Option Thread)) (view2 : seated code2 seats2 ≡ s3) where
-            stay : (after : Book) × Works s3 h2 after (book branch) job × KeepsBook c h1.number book after
+            stay : (after : Book) × IsAtJob s3 h2 after (book branch) job × KeepsBook c h1.number book after
             stay = done3 book (book branch) job (record { above = above1; in_job = begun.0 })
 
             abbrev after3 : Book
@@ -178,8 +178,8 @@ module _ (code : CodeParts) (seats : List (Option Thread)) (fitted : IsFitted (s
             abbrev after : Book
             after = tell after3 branch job
 
-            in3 : InJob c h2 after3 (book branch) job
-            in3 = subst (λ x. InJob (plain_code x) h2 after3 (book branch) job) leaves3.code stay.1.in_job
+            in3 : InJobByBook c h2 after3 (book branch) job
+            in3 = subst (λ x. InJobByBook (plain_code x) h2 after3 (book branch) job) leaves3.code stay.1.in_job
 
             number3 : h2.number ≡ branch
             number3 = number2 ∙ number_is
@@ -228,7 +228,7 @@ module _ (code : CodeParts) (seats : List (Option Thread)) (fitted : IsFitted (s
               abbrev pub s4 : Seated
               s4 = seated code2 (slice_set seats2 branch z)
 
-              gives : (xs : List Exchange) → StandsFor c h2 xs → Gives c h2.number xs (reply_packet r)
+              gives : (xs : List Exchange) → StandsFor c h2 xs → RepliesToLast c h2.number xs (reply_packet r)
               gives xs st =
                   let g = gives_own c h2 loaded2 replied xs st in
                   record { outputs = g.outputs; runs = g.runs; complete = g.complete; reply = g.reply; last = g.last; is = subst (IsReply (reply_packet r)) (direct.one_reply h2 r g.reply by g.is) (is_reply r) }
@@ -241,14 +241,14 @@ module _ (code : CodeParts) (seats : List (Option Thread)) (fitted : IsFitted (s
                   subst (λ s. Answers (CodeAlone c) (length c.threads) branch (book branch ++ job ∷ []) s) (sym (reply_once r ended.reply ended.is))
                   (subst (λ t. Answers (CodeAlone c) (length c.threads) t (book branch ++ job ∷ []) ended.reply) number3 ended.answers)
 
-              sits4 : Sits s4 branch h2
+              sits4 : HoldsThread s4 branch h2
               sits4 = record {
                 at = get_set seats2 branch z in_seats2 ∙ ap Some sitting;
                 loaded = subst (λ x. Loaded (plain_code x) h2) (sym code2_is) loaded2;
                 number = number3;
               }
 
-              pub heard_now : HasHeard s4 branch r
+              pub heard_now : BranchHasReply s4 branch r
               heard_now = record { thread = h2; sits = sits4; replied = replied; reply = by }
 
               seat4 : (j : ℕ) → j ≢ branch → slice_get s4.threads j ≡ slice_get s3.threads j
@@ -259,12 +259,12 @@ module _ (code : CodeParts) (seats : List (Option Thread)) (fitted : IsFitted (s
                 thread = h2;
                 sits = sits4;
                 resting = replied.resting;
-                done = subst (λ x. HasDone (plain_code x) h2 after (after branch)) (sym code2_is)
-                    (subst (λ js. HasDone c h2 after js) (sym told_now)
+                done = subst (λ x. HasDoneByBook (plain_code x) h2 after (after branch)) (sym code2_is)
+                    (subst (λ js. HasDoneByBook c h2 after js) (sym told_now)
                     (done_keeps c h2 after3 after (book branch ++ job ∷ [])
                     (λ j own. let n = number3 in let a = above in tell_else after3 branch job (suc j) (other h2.number j own (λ e. omega (arith, e, n, a)))) ended.done));
-                last = subst (λ x. LastReply (plain_code x) branch (after branch) h2) (sym code2_is)
-                    (subst (λ js. LastReply c branch js h2) (sym told_now) (last r answers (λ copies units e. reply_paused h2 copies units (subst (RepliesBy h2) e by))));
+                last = subst (λ x. LastJobReply (plain_code x) branch (after branch) h2) (sym code2_is)
+                    (subst (λ js. LastJobReply c branch js h2) (sym told_now) (last r answers (λ copies units e. reply_paused h2 copies units (subst (RepliesBy h2) e by))));
               }
 
               above4 : RestAbove s4 after h.number
@@ -303,7 +303,7 @@ module _ (code : CodeParts) (seats : List (Option Thread)) (fitted : IsFitted (s
                     let a = above in tell_else after3 branch job (suc j) (λ e. n' (e ∙ sym can.number)) ∙ stay.2 h.number j own (omega (arith, n, a));
               }
 
-              pub leaves4 : Leaves branch s0 s4
+              pub leaves4 : KeepsSeatsBelow branch s0 s4
               leaves4 = record {
                 code = code2_is;
                 count = length-set seats2 branch z ∙ count2;
@@ -315,7 +315,7 @@ module _ (code : CodeParts) (seats : List (Option Thread)) (fitted : IsFitted (s
   -- for whatever the threads had been told
   module _ (some : (book : Book) × CanCall s0 h k branch book) (x : Option Thread) (read : x ≡ slice_index_or seats branch x) (child : Thread) (is : x ≡ Some child) (y : Option Thread) (h1 : Thread) (number1 : h1.number ≡ child.number)
       (stands : (w : Written) (xs : List Exchange) → slice_get (jobs_at c h) k ≡ Some w → StandsFor c child xs → StandsFor c h1 (xs ++ record { job = w.job; replies = [] } ∷ []))
-      (s3 : Seated) (leaves3 : Leaves h1.number (seated code (slice_set seats branch y)) s3) (h2 : Thread) (number2 : h2.number ≡ h1.number) (loaded2 : Loaded c h2) (replied : HasReply h2) (done3 : StaysAtWork (seated code (slice_set seats branch y)) h1 s3 h2)
+      (s3 : Seated) (leaves3 : KeepsSeatsBelow h1.number (seated code (slice_set seats branch y)) s3) (h2 : Thread) (number2 : h2.number ≡ h1.number) (loaded2 : Loaded c h2) (replied : HasReply h2) (done3 : StaysAtWork (seated code (slice_set seats branch y)) h1 s3 h2)
       (code2 : CodeParts) (seats2 : List (Option Thread)) (view2 : seated code2 seats2 ≡ s3) (z : Option Thread) (sitting : z ≡ Some h2) where
     one_reply : Reply
     one_reply = its_reply some.0 some.1 x read child is y h1 number1 stands s3 leaves3 h2 number2 loaded2 replied done3 code2 seats2 view2
@@ -324,10 +324,10 @@ module _ (code : CodeParts) (seats : List (Option Thread)) (fitted : IsFitted (s
     unfolding one_reply its_reply
     by_it = it_replies some.0 some.1 x read child is y h1 number1 stands s3 leaves3 h2 number2 loaded2 replied done3 code2 seats2 view2
 
-    pub has_left : Leaves branch s0 (seated code2 (slice_set seats2 branch z))
+    pub has_left : KeepsSeatsBelow branch s0 (seated code2 (slice_set seats2 branch z))
     has_left = leaves4 some.0 some.1 x read child is y h1 number1 stands s3 leaves3 h2 number2 loaded2 replied done3 code2 seats2 view2 one_reply by_it z sitting
 
-    pub has_called : HasCalled s0 (seated code2 (slice_set seats2 branch z)) h k branch
+    pub has_called : BranchHasReplied s0 (seated code2 (slice_set seats2 branch z)) h k branch
     has_called = record {
       reply = one_reply;
       heard = heard_now some.0 some.1 x read child is y h1 number1 stands s3 leaves3 h2 number2 loaded2 replied done3 code2 seats2 view2 one_reply by_it z sitting;

@@ -11,14 +11,14 @@ use Rattle.core_machine.specs.Forks.{jobs_at, with_replies}
 use Rattle.tick_jobs.specs.Branches.{IsBranchOf}
 use Rattle.tick_jobs.proofs.Lists.{some_once, at_map}
 use Rattle.tick_jobs.proofs.Pairs.{pairs_more, no_pairs}
-use Rattle.one_core.specs.Seats.{Seated, code_in, Leaves}
-use Rattle.tick_jobs.specs.Told.{Book, IsAsleep, MayTell, IsJobFor}
-use Rattle.one_core.specs.Told.{HasTold}
+use Rattle.one_core.specs.Seats.{Seated, seated_code, KeepsSeatsBelow}
+use Rattle.tick_jobs.specs.Told.{Book, IsAsleep, MayTell, MayTellJob}
+use Rattle.one_core.specs.Told.{HasToldBranches}
 use Rattle.one_core.specs.Resting.{RestAbove}
-use Rattle.one_core.specs.Called.{IsForked, CanTell, CanCall, HasHeard, WasCalled, HasCalled, SettlesReply, HaveHeard, HaveCalled, Consulted}
+use Rattle.one_core.specs.Called.{IsLoadedFork, CanTell, CanCall, BranchHasReply, WasCalled, BranchHasReplied, SettlesReply, BranchesHaveReplies, HaveCalled, HasSettledReplies}
 use Rattle.one_core.proofs.TellLemmas.{keeps_same, keeps_then, leaves_same, leaves_then, told_more}
 
-pub consulted_none : (a : Seated) (h : Thread) → Consulted a a h h 0
+pub consulted_none : (a : Seated) (h : Thread) → HasSettledReplies a a h h 0
 consulted_none a h = record {
   within = omega arith;
   leaves = leaves_same h.number a;
@@ -28,8 +28,8 @@ consulted_none a h = record {
   called = λ book can. record {
     after = book;
     above = can.above;
-    keeps = keeps_same (code_in a) h.number book;
-    told = λ pairs told. subst (HasTold (code_in a) h.number book) (sym (append-nil pairs) ∙ ap (λ l. pairs ++ l) (sym (no_pairs (jobs_at (code_in a) h)))) told;
+    keeps = keeps_same (seated_code a) h.number book;
+    told = λ pairs told. subst (HasToldBranches (seated_code a) h.number book) (sym (append-nil pairs) ∙ ap (λ l. pairs ++ l) (sym (no_pairs (jobs_at (seated_code a) h)))) told;
     rest = λ i w le at. can.each i w at;
   };
   settled = λ xs before. before;
@@ -44,10 +44,10 @@ job_keeps c a b t (Start args values n) e h = tt
 job_keeps c a b t (Wake values n) e h = subst (IsAsleep c t) (sym e) h
 
 -- the next branch
-module _ (a b : Seated) (h h1 : Thread) (k number : ℕ) (fork : IsForked (code_in a) h) (done : Consulted a b h h1 k) (number1 : h1.number ≡ h.number) (jobs1 : jobs_at (code_in a) h1 ≡ jobs_at (code_in a) h)
+module _ (a b : Seated) (h h1 : Thread) (k number : ℕ) (fork : IsLoadedFork (seated_code a) h) (done : HasSettledReplies a b h h1 k) (number1 : h1.number ≡ h.number) (jobs1 : jobs_at (seated_code a) h1 ≡ jobs_at (seated_code a) h)
     (at : slice_get h.branches.numbers k ≡ Some number) where
   abbrev c : PlainCode
-  c = code_in a
+  c = seated_code a
 
   job : (w : Written) × (slice_get (jobs_at c h) k ≡ Some w) × (w.branch ≡ number)
   job = at_map (λ w. w.branch) (jobs_at c h) k number (ap (λ l. slice_get l k) (sym fork.numbers) ∙ at)
@@ -61,13 +61,13 @@ module _ (a b : Seated) (h h1 : Thread) (k number : ℕ) (fork : IsForked (code_
         job = job.0;
         at = subst (λ x. slice_get (jobs_at (plain_code x) h1) k ≡ Some job.0) (sym done.leaves.code) (ap (λ l. slice_get l k) jobs1 ∙ job.1);
         number = job.2;
-        is = subst (λ x. IsJobFor (plain_code x) w.after h1.number job.0) (sym done.leaves.code) (subst (λ t. IsJobFor c w.after t job.0) (sym number1) (w.rest k job.0 (omega arith) job.1));
+        is = subst (λ x. MayTellJob (plain_code x) w.after h1.number job.0) (sym done.leaves.code) (subst (λ t. MayTellJob c w.after t job.0) (sym number1) (w.rest k job.0 (omega arith) job.1));
       }
 
   pub some_call : (book : Book) × CanTell a h book → (book : Book) × CanCall b h1 k number book
   some_call some = ((done.called some.0 some.1).after, can_call some.0 some.1)
 
-  module _ (some : (book : Book) × CanTell a h book) (d : Seated) (leaves : Leaves number b d) (calls : HasCalled b d h1 k number) where
+  module _ (some : (book : Book) × CanTell a h book) (d : Seated) (leaves : KeepsSeatsBelow number b d) (calls : BranchHasReplied b d h1 k number) where
     low : h.number < number
     unfolding job can_call
     low = let x = (can_call some.0 some.1).is.above in let y = job.2 in subst (λ t. t < number) number1 (subst (λ n. h1.number < n) job.2 x)
@@ -80,7 +80,7 @@ module _ (a b : Seated) (h h1 : Thread) (k number : ℕ) (fork : IsForked (code_
         let x = w.2 in
         let y = job.2 in omega (arith, o, x, y)
 
-    still_heard : (n : ℕ) (q : Reply) → n < number → HasHeard b n q → HasHeard d n q
+    still_heard : (n : ℕ) (q : Reply) → n < number → BranchHasReply b n q → BranchHasReply d n q
     still_heard n q lt old = record {
       thread = old.thread;
       sits = record {
@@ -103,12 +103,12 @@ module _ (a b : Seated) (h h1 : Thread) (k number : ℕ) (fork : IsForked (code_
     count_then [] r = refl
     count_then (x ∷ l) r = let ih = count_then l r in omega (arith, ih)
 
-    more_heard : (i n : ℕ) (q : Reply) → slice_get h.branches.numbers i ≡ Some n → slice_get (done.replies ++ calls.reply ∷ []) i ≡ Some q → HasHeard d n q
+    more_heard : (i n : ℕ) (q : Reply) → slice_get h.branches.numbers i ≡ Some n → slice_get (done.replies ++ calls.reply ∷ []) i ≡ Some q → BranchHasReply d n q
     more_heard i n q at' there =
         ⊎_elim
         (λ p. let same : i ≡ k = p.0 ∙ done.count in
         let branch : number ≡ n = some_once number n (sym at ∙ ap (λ z. slice_get h.branches.numbers z) (sym same) ∙ at') in
-        subst (λ z. HasHeard d z q) branch (subst (HasHeard d number) (sym p.1) calls.heard))
+        subst (λ z. BranchHasReply d z q) branch (subst (BranchHasReply d number) (sym p.1) calls.heard))
         (λ old. let lt = slice_get_within done.replies i q old in
         still_heard n q (earlier i n (omega (arith, lt, done.count)) at') (done.heard i n q at' old))
         (last_or done.replies calls.reply i q there)
@@ -121,16 +121,16 @@ module _ (a b : Seated) (h h1 : Thread) (k number : ℕ) (fork : IsForked (code_
       unfolding job can_call
       now = calls.called w.after (can_call book can)
 
-      its : IsJobFor c w.after h.number job.0
+      its : MayTellJob c w.after h.number job.0
       its = w.rest k job.0 (omega arith) job.1
 
-      in_b : (p j : ℕ) → IsBranchOf c.shape p j → IsBranchOf (code_in b).shape p j
+      in_b : (p j : ℕ) → IsBranchOf c.shape p j → IsBranchOf (seated_code b).shape p j
       in_b p j own = subst (λ x. IsBranchOf (plain_code x).shape p j) (sym done.leaves.code) own
 
       others : (j : ℕ) → IsBranchOf c.shape h.number j → (suc j ≡ suc its.place → ⊥) → now.after (suc j) ≡ w.after (suc j)
-      others j own n = now.others j (subst (λ t. IsBranchOf (code_in b).shape t j) (sym number1) (in_b h.number j own)) (λ e. n (e ∙ its.branch))
+      others j own n = now.others j (subst (λ t. IsBranchOf (seated_code b).shape t j) (sym number1) (in_b h.number j own)) (λ e. n (e ∙ its.branch))
 
-      told : (pairs : List Answered) → HasTold c h.number book pairs → HasTold c h.number now.after (pairs ++ pair_up (jobs_at c h) (done.replies ++ calls.reply ∷ []))
+      told : (pairs : List Answered) → HasToldBranches c h.number book pairs → HasToldBranches c h.number now.after (pairs ++ pair_up (jobs_at c h) (done.replies ++ calls.reply ∷ []))
       told pairs before =
           let all = pairs ++ pair_up (jobs_at c h) done.replies in
           let at_suc = subst (λ t. now.after t ≡ w.after t ++ job.0.job ∷ []) its.branch now.told in
@@ -143,9 +143,9 @@ module _ (a b : Seated) (h h1 : Thread) (k number : ℕ) (fork : IsForked (code_
           ap (λ n. all ++ record { branch = n; job = job.0.job; reply = calls.reply } ∷ []) (sym its.branch)
           ∙ append_assoc pairs (pair_up (jobs_at c h) done.replies) (record { branch = job.0.branch; job = job.0.job; reply = calls.reply } ∷ [])
           ∙ ap (λ l. pairs ++ l) (sym (pairs_more (jobs_at c h) done.replies job.0 calls.reply (ap (λ i. slice_get (jobs_at c h) i) done.count ∙ job.1))) in
-          subst (HasTold c h.number now.after) named new
+          subst (HasToldBranches c h.number now.after) named new
 
-      later : (i : ℕ) (v : Written) → k + 1 ≤ i → slice_get (jobs_at c h) i ≡ Some v → IsJobFor c now.after h.number v
+      later : (i : ℕ) (v : Written) → k + 1 ≤ i → slice_get (jobs_at c h) i ≡ Some v → MayTellJob c now.after h.number v
       later i v le at' =
           let it = w.rest i v (omega (arith, le)) at' in
           let o = fork.order k i job.0 v (omega (arith, le)) job.1 at' in
@@ -171,7 +171,7 @@ module _ (a b : Seated) (h h1 : Thread) (k number : ℕ) (fork : IsForked (code_
         rest = later;
       }
 
-    pub consulted_more : (h2 : Thread) → SettlesReply b d number h1 k h2 → Consulted a d h h2 (k + 1)
+    pub consulted_more : (h2 : Thread) → SettlesReply b d number h1 k h2 → HasSettledReplies a d h h2 (k + 1)
     consulted_more h2 settles = record {
       within = let lt = slice_get_within h.branches.numbers k number at in omega (arith, lt);
       leaves = leaves_then h.number number a b d (let l = low in omega (arith, l)) done.leaves leaves;
@@ -184,5 +184,5 @@ module _ (a b : Seated) (h h1 : Thread) (k number : ℕ) (fork : IsForked (code_
           subst (λ x. StandsFor (plain_code x) h2 (with_replies xs (done.replies ++ calls.reply ∷ []))) done.leaves.code (settles xs done.replies calls.reply done.count calls.heard old);
     }
 
-pub have_heard : (a b : Seated) (h h1 : Thread) (k : ℕ) (done : Consulted a b h h1 k) → length h.branches.numbers ≤ k → HaveHeard b h.branches.numbers done.replies
+pub have_heard : (a b : Seated) (h h1 : Thread) (k : ℕ) (done : HasSettledReplies a b h h1 k) → length h.branches.numbers ≤ k → BranchesHaveReplies b h.branches.numbers done.replies
 have_heard a b h h1 k done le = record { count = omega (arith, done.count, done.within, le); each = done.heard }

@@ -6,15 +6,15 @@ use Rattle.forec_kernel.specs.Engine.{Reply, WasOver}
 use Rattle.core_machine.specs.declared.thread.Thread.{Thread}
 use Rattle.core_machine.specs.Threads.{Loaded, HasReply}
 use Rattle.tick_jobs.proofs.Lists.{some_once}
-use Rattle.one_core.specs.Seats.{Seated, code_in}
-use Rattle.one_core.specs.Called.{HasHeard, HaveHeard}
+use Rattle.one_core.specs.Seats.{Seated, seated_code}
+use Rattle.one_core.specs.Called.{BranchHasReply, BranchesHaveReplies}
 use Rattle.core_machine.specs.Direct.{RepliesBy}
 
-module _ (s : Seated) (branches : List ℕ) (rs : List Reply) (heard : HaveHeard s branches rs) (k b : ℕ) (at : slice_get branches k ≡ Some b) where
+module _ (s : Seated) (branches : List ℕ) (rs : List Reply) (heard : BranchesHaveReplies s branches rs) (k b : ℕ) (at : slice_get branches k ≡ Some b) where
   pub reply_at : (r : Reply) × (slice_get rs k ≡ Some r)
   reply_at = let lt = slice_get_within branches k b at in (get_or rs k WasOver, slice_get-get_or rs k WasOver (omega (arith, lt, heard.count)))
 
-  heard_at : HasHeard s b reply_at.0
+  heard_at : BranchHasReply s b reply_at.0
   heard_at = heard.each k b reply_at.0 at reply_at.1
 
   pub in_seats : b < length s.threads
@@ -34,8 +34,8 @@ module _ (s : Seated) (branches : List ℕ) (rs : List Reply) (heard : HaveHeard
       pub it_replied : HasReply h
       it_replied = subst HasReply same heard_at.replied
 
-      pub it_loaded : Loaded (code_in s) h
-      it_loaded = subst (Loaded (code_in s)) same heard_at.sits.loaded
+      pub it_loaded : Loaded (seated_code s) h
+      it_loaded = subst (Loaded (seated_code s)) same heard_at.sits.loaded
 
       pub its_number : h.number ≡ b
       its_number = ap (λ (z : Thread). z.number) (sym same) ∙ heard_at.sits.number

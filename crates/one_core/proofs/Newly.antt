@@ -11,19 +11,19 @@ use Rattle.combine_tree.specs.Plain.{plain_packet}
 use Rattle.core_machine.specs.declared.thread.Thread.{Thread}
 use Rattle.tick_jobs.specs.Ready.{IsReady}
 use Rattle.tick_jobs.specs.Ticks.{HasRun, RanNone}
-use Rattle.one_core.specs.Loads.{AreNew, IsNew}
-use Rattle.one_core.specs.Seats.{Seated, Sits}
+use Rattle.one_core.specs.Loads.{AreNew, IsNewThread}
+use Rattle.one_core.specs.Seats.{Seated, HoldsThread}
 use Rattle.tick_jobs.specs.Told.{Book}
-use Rattle.one_core.specs.Told.{HasDone}
-use Rattle.one_core.specs.Resting.{none, Rests, HasWorked}
-use Rattle.one_core.specs.Single.{single, IsSingle, ticking}
+use Rattle.one_core.specs.Told.{HasDoneByBook}
+use Rattle.one_core.specs.Resting.{none, Rests, AllRestAfter}
+use Rattle.one_core.specs.Single.{single, IsSingle, single_ticking}
 
 module _ (v : Seated) (valid : IsValidCode (plain_code v.code)) (count : length v.threads ≡ length (plain_code v.code).threads) (each : AreNew (plain_code v.code) v.threads)
     (root : Packet) (room : HasRoom (of_shape (plain_code v.code).shape) 0 (plain_packet root)) (is_blank : root.kind ≡ kind.Blank) where
   record NewThread (t : ℕ) : Type 0 where
     thread : Thread
-    sits : Sits v t thread
-    new : IsNew (plain_code v.code) t thread
+    sits : HoldsThread v t thread
+    new : IsNewThread (plain_code v.code) t thread
 
   thread_at : (t : ℕ) → t < length (plain_code v.code).threads → NewThread t
   thread_at t lt =
@@ -40,7 +40,7 @@ module _ (v : Seated) (valid : IsValidCode (plain_code v.code)) (count : length 
   abbrev no_book : Book
   no_book t = []
 
-  new_done : (t : ℕ) (n : NewThread t) → HasDone (plain_code v.code) n.thread no_book []
+  new_done : (t : ℕ) (n : NewThread t) → HasDoneByBook (plain_code v.code) n.thread no_book []
   new_done t n = record {
     exchanges = [];
     outputs = [];
@@ -55,7 +55,7 @@ module _ (v : Seated) (valid : IsValidCode (plain_code v.code)) (count : length 
   new_rests t lt =
       let n = thread_at t (omega (arith, lt, count)) in record { thread = n.thread; sits = n.sits; resting = n.new.resting; done = new_done t n; last = none refl }
 
-  new_worked : HasWorked v []
+  new_worked : AllRestAfter v []
   new_worked =
       let r = new_rests 0 (omega (arith, count, valid.shape.some, valid.threads)) in
       record { book = no_book; above = λ j less lt. new_rests j lt; thread = r.thread; sits = r.sits; resting = r.resting; done = r.done }
@@ -68,7 +68,7 @@ module _ (v : Seated) (valid : IsValidCode (plain_code v.code)) (count : length 
     ready = λ e t sits. subst (IsReady t) (sym is_blank) tt;
   }
 
-  pub ran_none : RanNone (ticking (single v root true))
+  pub ran_none : RanNone (single_ticking (single v root true))
   unfolding HasRun
   ran_none = record {
     live = refl;

@@ -11,18 +11,18 @@ use Rattle.thread_code.specs.Plain.{PlainCode, plain_code}
 use Rattle.thread_code.specs.Alone.{CodeAlone}
 use Rattle.combine_tree.specs.declared.packet.PacketKind.{PacketKind}
 use Rattle.core_machine.specs.declared.thread.Thread.{Thread}
-use Rattle.core_machine.specs.Threads.{Loaded, CanBegin, StandsFor, IsResting, HasReply, Gives}
+use Rattle.core_machine.specs.Threads.{Loaded, CanBegin, StandsFor, IsResting, HasReply, RepliesToLast}
 use Rattle.tick_jobs.proofs.Lists.{some_once, get_set, get_set_else}
-use Rattle.one_core.specs.Seats.{Seated, IsFitted, Sits, Leaves}
+use Rattle.one_core.specs.Seats.{Seated, HasAllSeats, HoldsThread, KeepsSeatsBelow}
 use Rattle.tick_jobs.specs.Told.{Book}
-use Rattle.one_core.specs.Told.{HasDone, InJob, KeepsBook, by_book}
-use Rattle.one_core.specs.Resting.{RestAbove, HasBegun, Works, StaysAtWork, HasWorked, HasReplied}
+use Rattle.one_core.specs.Told.{HasDoneByBook, InJobByBook, KeepsBook, by_book}
+use Rattle.one_core.specs.Resting.{RestAbove, HasBegun, IsAtJob, StaysAtWork, AllRestAfter, RootHasReplied}
 use Rattle.one_core.proofs.TellLemmas.{rests_keeps}
 use Rattle.tick_jobs.proofs.Logs.{job_begins, Ends, job_ends}
 use Rattle.one_core.proofs.JobLemmas.{told_answered}
 use Rattle.one_core.proofs.CallLemmas.{seated}
 
-module _ (code : CodeParts) (seats : List (Option Thread)) (fitted : IsFitted (seated code seats)) where
+module _ (code : CodeParts) (seats : List (Option Thread)) (fitted : HasAllSeats (seated code seats)) where
   abbrev c : PlainCode
   c = plain_code code
 
@@ -35,7 +35,7 @@ module _ (code : CodeParts) (seats : List (Option Thread)) (fitted : IsFitted (s
   in_threads : 0 < length c.threads
   in_threads = let some = fitted.valid.shape.some in let same = fitted.valid.threads in omega (arith, some, same)
 
-  module _ (jobs : List Job) (worked : HasWorked s0 jobs) (x : Option Thread) (read : x ≡ slice_index_or seats 0 x) where
+  module _ (jobs : List Job) (worked : AllRestAfter s0 jobs) (x : Option Thread) (read : x ≡ slice_index_or seats 0 x) where
     seat_is : x ≡ Some worked.thread
     seat_is = read ∙ get_or_from_slice_get seats 0 (Some worked.thread) x worked.sits.at
 
@@ -52,7 +52,7 @@ module _ (code : CodeParts) (seats : List (Option Thread)) (fitted : IsFitted (s
       pub root_rests : IsResting h
       root_rests = subst IsResting same worked.resting
 
-      pub root_begins : (k : PacketKind) → ((t : Thread) → Sits s0 0 t → CanBegin t k) → CanBegin h k
+      pub root_begins : (k : PacketKind) → ((t : Thread) → HoldsThread s0 0 t → CanBegin t k) → CanBegin h k
       root_begins k can = subst (λ t. CanBegin t k) same (can worked.thread worked.sits)
 
       pub root_number : h.number ≡ 0
@@ -72,7 +72,7 @@ module _ (code : CodeParts) (seats : List (Option Thread)) (fitted : IsFitted (s
             let count = length-set seats 0 y in
             rests_keeps s0 s1 worked.book worked.book j refl (get_set_else seats 0 j y (λ e. omega (arith, e, lt, n))) refl (λ i own. refl) (worked.above j (omega (arith, lt, n)) (omega (arith, less, count)))
 
-        begun : (i : InJob c h1 worked.book jobs job) × (i.log.before ≡ [])
+        begun : (i : InJobByBook c h1 worked.book jobs job) × (i.log.before ≡ [])
         begun =
             let n = number_1 in
             let lt = in_threads in
@@ -82,16 +82,16 @@ module _ (code : CodeParts) (seats : List (Option Thread)) (fitted : IsFitted (s
         pub has_begun : HasBegun s1 h1
         has_begun = record { book = worked.book; above = above1; jobs = jobs; job = job; in_job = begun.0; first = begun.1 }
 
-        module _ (s3 : Seated) (leaves3 : Leaves h1.number s1 s3) (h2 : Thread) (number2 : h2.number ≡ h1.number) (loaded2 : Loaded c h2) (replied : HasReply h2) (done3 : StaysAtWork s1 h1 s3 h2)
-            (code2 : CodeParts) (seats2 : List (Option Thread)) (view2 : seated code2 seats2 ≡ s3) (q : PlainPacket) (gives : (xs : List Exchange) → StandsFor c h2 xs → Gives c h2.number xs q) (z : Option Thread) (sitting : z ≡ Some h2) where
+        module _ (s3 : Seated) (leaves3 : KeepsSeatsBelow h1.number s1 s3) (h2 : Thread) (number2 : h2.number ≡ h1.number) (loaded2 : Loaded c h2) (replied : HasReply h2) (done3 : StaysAtWork s1 h1 s3 h2)
+            (code2 : CodeParts) (seats2 : List (Option Thread)) (view2 : seated code2 seats2 ≡ s3) (q : PlainPacket) (gives : (xs : List Exchange) → StandsFor c h2 xs → RepliesToLast c h2.number xs q) (z : Option Thread) (sitting : z ≡ Some h2) where
           abbrev s4 : Seated
           s4 = seated code2 (slice_set seats2 0 z)
 
-          stay : (after : Book) × Works s3 h2 after jobs job × KeepsBook c h1.number worked.book after
+          stay : (after : Book) × IsAtJob s3 h2 after jobs job × KeepsBook c h1.number worked.book after
           stay = done3 worked.book jobs job (record { above = above1; in_job = begun.0 })
 
-          in3 : InJob c h2 stay.0 jobs job
-          in3 = subst (λ x. InJob (plain_code x) h2 stay.0 jobs job) leaves3.code stay.1.in_job
+          in3 : InJobByBook c h2 stay.0 jobs job
+          in3 = subst (λ x. InJobByBook (plain_code x) h2 stay.0 jobs job) leaves3.code stay.1.in_job
 
           number3 : h2.number ≡ 0
           number3 = number2 ∙ number_1
@@ -117,7 +117,7 @@ module _ (code : CodeParts) (seats : List (Option Thread)) (fitted : IsFitted (s
               rests_keeps s3 s4 stay.0 stay.0 j (ap (λ (s : Seated). s.code) view2)
               (get_set_else seats2 0 j z (λ e. omega (arith, e, lt)) ∙ ap (λ (s : Seated). slice_get s.threads j) view2) refl (λ i own. refl) (stay.1.above j (omega (arith, lt, n)) (omega (arith, less, count, v)))
 
-          pub root_replied : HasReplied s4 (jobs ++ job ∷ []) q
+          pub root_replied : RootHasReplied s4 (jobs ++ job ∷ []) q
           root_replied = record {
             worked = record {
               book = stay.0;
@@ -129,7 +129,7 @@ module _ (code : CodeParts) (seats : List (Option Thread)) (fitted : IsFitted (s
                 number = number3;
               };
               resting = replied.resting;
-              done = subst (λ w. HasDone (plain_code w) h2 stay.0 (jobs ++ job ∷ [])) (sym code2_is) ended.done;
+              done = subst (λ w. HasDoneByBook (plain_code w) h2 stay.0 (jobs ++ job ∷ [])) (sym code2_is) ended.done;
             };
             reply = ended.reply;
             is = ended.is;

@@ -10,10 +10,10 @@ use Rattle.core_machine.specs.Threads.{Loaded}
 use Rattle.tick_jobs.specs.Branches.{IsBranchOf, AreAbove}
 use Rattle.tick_jobs.proofs.Lists.{by_equal}
 use Rattle.tick_jobs.proofs.Pairs.{jobs_then, same_test, other_test, allowed_more}
-use Rattle.one_core.specs.Seats.{Seated, code_in, IsFitted, Leaves}
+use Rattle.one_core.specs.Seats.{Seated, seated_code, HasAllSeats, KeepsSeatsBelow}
 use Rattle.tick_jobs.specs.Told.{Book}
-use Rattle.one_core.specs.Told.{tell, HasTold, HasDone, KeepsBook}
-use Rattle.one_core.specs.Resting.{LastReply, Rests}
+use Rattle.one_core.specs.Told.{tell, HasToldBranches, HasDoneByBook, KeepsBook}
+use Rattle.one_core.specs.Resting.{LastJobReply, Rests}
 
 pub tell_here : (book : Book) (t : ℕ) (job : Job) → tell book t job t ≡ book t ++ job ∷ []
 tell_here book t job = ap (λ b. cond b (book t ++ job ∷ []) (book t)) (same_test t t refl)
@@ -29,10 +29,10 @@ keeps_same c t a p k mine lt = refl
 pub keeps_then : (c : PlainCode) (t : ℕ) (a b d : Book) → KeepsBook c t a b → KeepsBook c t b d → KeepsBook c t a d
 keeps_then c t a b d h g p k mine lt = g p k mine lt ∙ h p k mine lt
 
-pub told_keeps : (c : PlainCode) (t : ℕ) (a b : Book) (pairs : List Answered) → ((k : ℕ) → IsBranchOf c.shape t k → b (suc k) ≡ a (suc k)) → HasTold c t a pairs → HasTold c t b pairs
+pub told_keeps : (c : PlainCode) (t : ℕ) (a b : Book) (pairs : List Answered) → ((k : ℕ) → IsBranchOf c.shape t k → b (suc k) ≡ a (suc k)) → HasToldBranches c t a pairs → HasToldBranches c t b pairs
 told_keeps c t a b pairs same h = record { above = h.above; allowed = h.allowed; jobs = λ k mine. h.jobs k mine ∙ sym (same k mine) }
 
-pub done_keeps : (c : PlainCode) (h : Thread) (a b : Book) (jobs : List Job) → ((k : ℕ) → IsBranchOf c.shape h.number k → b (suc k) ≡ a (suc k)) → HasDone c h a jobs → HasDone c h b jobs
+pub done_keeps : (c : PlainCode) (h : Thread) (a b : Book) (jobs : List Job) → ((k : ℕ) → IsBranchOf c.shape h.number k → b (suc k) ≡ a (suc k)) → HasDoneByBook c h a jobs → HasDoneByBook c h b jobs
 done_keeps c h a b jobs same d = record {
   exchanges = d.exchanges;
   outputs = d.outputs;
@@ -43,7 +43,7 @@ done_keeps c h a b jobs same d = record {
   posts = told_keeps c h.number a b (pair_all d.exchanges d.outputs) same d.posts;
 }
 
-pub rests_keeps : (s s' : Seated) (a b : Book) (j : ℕ) → s'.code ≡ s.code → slice_get s'.threads j ≡ slice_get s.threads j → b j ≡ a j → ((k : ℕ) → IsBranchOf (code_in s).shape j k → b (suc k) ≡ a (suc k)) →
+pub rests_keeps : (s s' : Seated) (a b : Book) (j : ℕ) → s'.code ≡ s.code → slice_get s'.threads j ≡ slice_get s.threads j → b j ≡ a j → ((k : ℕ) → IsBranchOf (seated_code s).shape j k → b (suc k) ≡ a (suc k)) →
     Rests s a j → Rests s' b j
 rests_keeps s s' a b j code seat same branches r =
     let number = r.sits.number in
@@ -51,22 +51,22 @@ rests_keeps s s' a b j code seat same branches r =
       thread = r.thread;
       sits = record { at = seat ∙ r.sits.at; loaded = subst (λ x. Loaded (plain_code x) r.thread) (sym code) r.sits.loaded; number = number };
       resting = r.resting;
-      done = subst (λ x. HasDone (plain_code x) r.thread b (b j)) (sym code)
-          (subst (λ js. HasDone (code_in s) r.thread b js) (sym same)
-          (done_keeps (code_in s) r.thread a b (a j) (λ k mine. branches k (subst (λ n. IsBranchOf (code_in s).shape n k) number mine)) r.done));
-      last = subst (λ x. LastReply (plain_code x) j (b j) r.thread) (sym code) (subst (λ js. LastReply (code_in s) j js r.thread) (sym same) r.last);
+      done = subst (λ x. HasDoneByBook (plain_code x) r.thread b (b j)) (sym code)
+          (subst (λ js. HasDoneByBook (seated_code s) r.thread b js) (sym same)
+          (done_keeps (seated_code s) r.thread a b (a j) (λ k mine. branches k (subst (λ n. IsBranchOf (seated_code s).shape n k) number mine)) r.done));
+      last = subst (λ x. LastJobReply (plain_code x) j (b j) r.thread) (sym code) (subst (λ js. LastJobReply (seated_code s) j js r.thread) (sym same) r.last);
     }
 
-pub fitted_keeps : (t : ℕ) (a b : Seated) → Leaves t a b → IsFitted a → IsFitted b
+pub fitted_keeps : (t : ℕ) (a b : Seated) → KeepsSeatsBelow t a b → HasAllSeats a → HasAllSeats b
 fitted_keeps t a b h f = record {
   valid = subst (λ x. IsValidCode (plain_code x)) (sym h.code) f.valid;
   seats = h.count ∙ f.seats ∙ sym (ap (λ x. length (plain_code x).threads) h.code);
 }
 
-pub leaves_same : (t : ℕ) (a : Seated) → Leaves t a a
+pub leaves_same : (t : ℕ) (a : Seated) → KeepsSeatsBelow t a a
 leaves_same t a = record { code = refl; count = refl; seats = λ j lt. refl }
 
-pub leaves_then : (t u : ℕ) (a b d : Seated) → t < suc u → Leaves t a b → Leaves u b d → Leaves t a d
+pub leaves_then : (t u : ℕ) (a b d : Seated) → t < suc u → KeepsSeatsBelow t a b → KeepsSeatsBelow u b d → KeepsSeatsBelow t a d
 leaves_then t u a b d le h g = record { code = g.code ∙ h.code; count = g.count ∙ h.count; seats = λ j lt. g.seats j (omega (arith, lt, le)) ∙ h.seats j lt }
 
 -- ---- a thread told a branch one job more
@@ -86,7 +86,7 @@ module _ (c : PlainCode) (t : ℕ) (a b : Book) (k : ℕ) (lt : t < suc k) (job 
   above_more [] h = (lt, tt)
   above_more (y ∷ xs) h = (h.0, above_more xs h.1)
 
-  pub told_more : IsBranchOf c.shape t k → Answers (CodeAlone c) (length c.threads) (suc k) (b (suc k)) r → HasTold c t a pairs → HasTold c t b (pairs ++ x ∷ [])
+  pub told_more : IsBranchOf c.shape t k → Answers (CodeAlone c) (length c.threads) (suc k) (b (suc k)) r → HasToldBranches c t a pairs → HasToldBranches c t b (pairs ++ x ∷ [])
   told_more mine answers h =
       let here : jobs_to (suc k) (pairs ++ x ∷ []) ≡ b (suc k) = here_jobs ∙ ap (λ l. l ++ job ∷ []) (h.jobs k mine) ∙ sym told in
       record {

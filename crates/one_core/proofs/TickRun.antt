@@ -14,8 +14,8 @@ use Rattle.combine_tree.specs.declared.packet.PacketKind.TheVariants as kind
 use Rattle.combine_tree.specs.Plain.{plain_packet}
 use Rattle.core_machine.specs.declared.thread.Thread.{Thread}
 use Rattle.core_machine.specs.Threads.{CanBegin}
-use Rattle.core_machine.specs.Replies.{Replies_by}
-use Rattle.tick_jobs.specs.Jobs.{IsBetween, kind_of, job_of}
+use Rattle.core_machine.specs.Replies.{RepliesByKind}
+use Rattle.tick_jobs.specs.Jobs.{IsBetweenTicks, next_job_kind, job_of}
 use Rattle.tick_jobs.specs.Outcomes.{IsReplied, outcome_in, HasOutputs, LacksOutputs}
 use Rattle.tick_jobs.specs.Ready.{IsReady}
 use Rattle.tick_jobs.specs.Told.{Book}
@@ -23,31 +23,31 @@ use Rattle.tick_jobs.specs.Ticks.{RunsTick}
 use Rattle.tick_jobs.proofs.TickOutcome.{goes_on_paused}
 use Rattle.tick_jobs.proofs.RunTick.{RepliesTo, fits_more, runs_tick}
 use Rattle.tick_jobs.proofs.Readiness.{between_of, begins_by, replied_of}
-use Rattle.one_core.specs.Seats.{Seated, code_in, Sits, IsFitted}
-use Rattle.one_core.specs.Resting.{HasWorked, HasRepliedTo}
-use Rattle.one_core.specs.Told.{HasDone, HasTalked, HaveTalked}
-use Rattle.one_core.specs.Single.{Single, single, seated_in, code_of, IsSingle, HasJobs, ticking}
+use Rattle.one_core.specs.Seats.{Seated, seated_code, HoldsThread, HasAllSeats}
+use Rattle.one_core.specs.Resting.{AllRestAfter, RootHasRepliedTo}
+use Rattle.one_core.specs.Told.{HasDoneByBook, HasTalked, HaveTalked}
+use Rattle.one_core.specs.Single.{Single, single, seated_in, code_of, IsSingle, HasRootJobs, single_ticking}
 
 -- ---- before
 
 module _ (o : Single) (inv : IsSingle o) (live : o.live ≡ true) where
-  pub is_between : IsBetween o.root.kind
+  pub is_between : IsBetweenTicks o.root.kind
   is_between = let w = inv.worked.1 in between_of w.thread o.root.kind (inv.ready live w.thread w.sits)
 
-  pub can_begin : (t : Thread) → Sits (seated_in o) 0 t → CanBegin t (kind_of o.root.kind)
+  pub can_begin : (t : Thread) → HoldsThread (seated_in o) 0 t → CanBegin t (next_job_kind o.root.kind)
   can_begin t sits = begins_by t o.root.kind (inv.ready live t sits)
 
-pub it_replied : (o : Single) → IsSingle o → (v1 : Seated) (pj p1 : Packet) (job : Job) → IsJob (plain_packet pj) job → HasRepliedTo (seated_in o) v1 (plain_packet pj) (plain_packet p1) → ((t : Thread) → Sits v1 0 t → Replies_by t p1.kind) → IsReplied p1.kind
+pub it_replied : (o : Single) → IsSingle o → (v1 : Seated) (pj p1 : Packet) (job : Job) → IsJob (plain_packet pj) job → RootHasRepliedTo (seated_in o) v1 (plain_packet pj) (plain_packet p1) → ((t : Thread) → HoldsThread v1 0 t → RepliesByKind t p1.kind) → IsReplied p1.kind
 it_replied o inv v1 pj p1 job is replied by = let w = (replied inv.worked.0 job inv.worked.1 is).worked in replied_of w.thread p1.kind (by w.thread w.sits)
 
 -- ---- after
 
 module _ (v0 v1 : Seated) (p0 p1 pj : Packet) (live0 live1 : Bool) (inv : IsSingle (single v0 p0 live0)) (live : live0 ≡ true) (row : List ℤ) (budget : ℕ)
-    (isjob : IsJob (plain_packet pj) (job_of (code_in v0).shape p0 row budget)) (code1 : v1.code ≡ v0.code) (fitted1 : IsFitted v1) (room1 : HasRoom (of_shape (code_in v0).shape) 0 (plain_packet p1))
-    (kind1 : (t : Thread) → Sits v1 0 t → Replies_by t p1.kind) (replied1 : HasRepliedTo v0 v1 (plain_packet pj) (plain_packet p1))
+    (isjob : IsJob (plain_packet pj) (job_of (seated_code v0).shape p0 row budget)) (code1 : v1.code ≡ v0.code) (fitted1 : HasAllSeats v1) (room1 : HasRoom (of_shape (seated_code v0).shape) 0 (plain_packet p1))
+    (kind1 : (t : Thread) → HoldsThread v1 0 t → RepliesByKind t p1.kind) (replied1 : RootHasRepliedTo v0 v1 (plain_packet pj) (plain_packet p1))
     (outcome : Outcome) (outcome_is : outcome ≡ outcome_in p1.kind) (live_is : live1 ≡ goes_on outcome) where
   abbrev c : PlainCode
-  c = code_in v0
+  c = seated_code v0
 
   abbrev job : Job
   job = job_of c.shape p0 row budget
@@ -58,7 +58,7 @@ module _ (v0 v1 : Seated) (p0 p1 pj : Packet) (live0 live1 : Bool) (inv : IsSing
   abbrev o1 : Single
   o1 = single v1 p1 live1
 
-  now_worked : (jobs : List Job) × HasWorked v1 jobs
+  now_worked : (jobs : List Job) × AllRestAfter v1 jobs
   now_worked = let w = inv.worked in (w.0 ++ job ∷ [], (replied1 w.0 job w.1 isjob).worked)
 
   paused_of : live1 ≡ true → p1.kind ≡ kind.Paused
@@ -69,16 +69,16 @@ module _ (v0 v1 : Seated) (p0 p1 pj : Packet) (live0 live1 : Bool) (inv : IsSing
     fitted = fitted1;
     worked = now_worked;
     room = subst (λ x. HasRoom (of_shape (plain_code x).shape) 0 (plain_packet p1)) (sym code1) room1;
-    ready = λ e t sits. subst (IsReady t) (sym (paused_of e)) (subst (Replies_by t) (paused_of e) (kind1 t sits));
+    ready = λ e t sits. subst (IsReady t) (sym (paused_of e)) (subst (RepliesByKind t) (paused_of e) (kind1 t sits));
   }
 
-  now_jobs : (jobs : List Job) → HasJobs o0 jobs → HasJobs o1 (jobs ++ job ∷ [])
+  now_jobs : (jobs : List Job) → HasRootJobs o0 jobs → HasRootJobs o1 (jobs ++ job ∷ [])
   now_jobs jobs old = record {
-    fit = subst (λ x. EachFits (plain_code x).shape 0 (jobs ++ job ∷ [])) (sym code1) (fits_more (ticking o0) inv.fitted.valid inv.room row budget jobs old.fit);
+    fit = subst (λ x. EachFits (plain_code x).shape 0 (jobs ++ job ∷ [])) (sym code1) (fits_more (single_ticking o0) inv.fitted.valid inv.room row budget jobs old.fit);
     worked = (replied1 jobs job old.worked isjob).worked;
   }
 
-  replies : (jobs : List Job) → HasJobs o0 jobs → RepliesTo (ticking o0) (ticking o1) jobs job
+  replies : (jobs : List Job) → HasRootJobs o0 jobs → RepliesTo (single_ticking o0) (single_ticking o1) jobs job
   replies jobs old =
       let q = replied1 jobs job old.worked isjob in
       record {
@@ -88,18 +88,18 @@ module _ (v0 v1 : Seated) (p0 p1 pj : Packet) (live0 live1 : Bool) (inv : IsSing
         answers = subst (λ x. Answers (CodeAlone (plain_code x)) (length (plain_code x).threads) 0 (jobs ++ job ∷ []) q.reply) code1 q.answers;
       }
 
-  pub ran : (before after : List ℤ) → (HasOutputs outcome → after ≡ values_of (uses_in c.shape.threads 0) p1.copies.items c.shape.outputs) → (LacksOutputs outcome → after ≡ before) → RunsTick (ticking o0) (ticking o1) row budget outcome before after
+  pub ran : (before after : List ℤ) → (HasOutputs outcome → after ≡ values_of (uses_in c.shape.threads 0) p1.copies.items c.shape.outputs) → (LacksOutputs outcome → after ≡ before) → RunsTick (single_ticking o0) (single_ticking o1) row budget outcome before after
   ran before after are stay =
-      runs_tick (ticking o0) (ticking o1) (ap plain_code code1) inv.fitted.valid inv.room live row budget outcome before after outcome_is live_is are stay (λ jobs had. had.fit) replies
+      runs_tick (single_ticking o0) (single_ticking o1) (ap plain_code code1) inv.fitted.valid inv.room live row budget outcome before after outcome_is live_is are stay (λ jobs had. had.fit) replies
 
 -- ---- what threads told and replied
 
 -- a thread that has done its jobs has talked for them
-talked : (c : PlainCode) (t : ℕ) (h : Thread) (book : Book) (jobs : List Job) → h.number ≡ t → HasDone c h book jobs → HasTalked c t book jobs
+talked : (c : PlainCode) (t : ℕ) (h : Thread) (book : Book) (jobs : List Job) → h.number ≡ t → HasDoneByBook c h book jobs → HasTalked c t book jobs
 talked c t h book jobs number d =
     subst (λ n. HasTalked c n book jobs) number (record { exchanges = d.exchanges; outputs = d.outputs; jobs_are = d.jobs_are; runs = d.runs; complete = d.complete; told = d.posts })
 
-pub all_talked : (o : Single) → IsSingle o → (jobs : List Job) → HasJobs o jobs → HaveTalked (code_of o) jobs
+pub all_talked : (o : Single) → IsSingle o → (jobs : List Job) → HasRootJobs o jobs → HaveTalked (code_of o) jobs
 all_talked o inv jobs had =
     let w = had.worked in
     record {

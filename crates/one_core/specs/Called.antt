@@ -8,14 +8,14 @@ use Rattle.core_machine.specs.declared.thread.Thread.{Thread}
 use Rattle.core_machine.specs.Threads.{Loaded, HasSettled, HasReply, StandsFor}
 use Rattle.core_machine.specs.Forks.{jobs_at, with_replies}
 use Rattle.tick_jobs.specs.Branches.{IsBranchOf}
-use Rattle.one_core.specs.Seats.{Seated, code_in, Sits, Leaves}
-use Rattle.tick_jobs.specs.Told.{Book, IsJobFor}
-use Rattle.one_core.specs.Told.{HasTold, KeepsBook}
+use Rattle.one_core.specs.Seats.{Seated, seated_code, HoldsThread, KeepsSeatsBelow}
+use Rattle.tick_jobs.specs.Told.{Book, MayTellJob}
+use Rattle.one_core.specs.Told.{HasToldBranches, KeepsBook}
 use Rattle.one_core.specs.Resting.{RestAbove}
 use Rattle.core_machine.specs.Direct.{RepliesBy}
 
 -- the fork of a thread
-pub record IsForked (c : PlainCode) (h : Thread) : Type 0 where
+pub record IsLoadedFork (c : PlainCode) (h : Thread) : Type 0 where
   pub loaded : Loaded c h
   pub settled : HasSettled h 0
   pub few : length h.branches.numbers ≤ MAX_THREADS
@@ -25,20 +25,20 @@ pub record IsForked (c : PlainCode) (h : Thread) : Type 0 where
 -- each of its jobs may be told, and all threads above it rest
 pub record CanTell (s : Seated) (h : Thread) (book : Book) : Type 0 where
   pub above : RestAbove s book h.number
-  pub each : (i : ℕ) (w : Written) → slice_get (jobs_at (code_in s) h) i ≡ Some w → IsJobFor (code_in s) book h.number w
+  pub each : (i : ℕ) (w : Written) → slice_get (jobs_at (seated_code s) h) i ≡ Some w → MayTellJob (seated_code s) book h.number w
 
 -- the k-th of its branches may be told its job, and all threads above rest
 pub record CanCall (s : Seated) (h : Thread) (k branch : ℕ) (book : Book) : Type 0 where
   pub above : RestAbove s book h.number
   pub job : Written
-  pub at : slice_get (jobs_at (code_in s) h) k ≡ Some job
+  pub at : slice_get (jobs_at (seated_code s) h) k ≡ Some job
   pub number : job.branch ≡ branch
-  pub is : IsJobFor (code_in s) book h.number job
+  pub is : MayTellJob (seated_code s) book h.number job
 
 -- this branch has this reply
-pub record HasHeard (s : Seated) (branch : ℕ) (r : Reply) : Type 0 where
+pub record BranchHasReply (s : Seated) (branch : ℕ) (r : Reply) : Type 0 where
   pub thread : Thread
-  pub sits : Sits s branch thread
+  pub sits : HoldsThread s branch thread
   pub replied : HasReply thread
   pub reply : RepliesBy thread r
 
@@ -47,48 +47,48 @@ pub record WasCalled (a b : Seated) (h : Thread) (book : Book) (w : Written) (r 
   pub after : Book
   pub above : RestAbove b after h.number
   pub told : after w.branch ≡ book w.branch ++ w.job ∷ []
-  pub answers : Answers (CodeAlone (code_in a)) (length (code_in a).threads) w.branch (after w.branch) r
-  pub keeps : KeepsBook (code_in a) h.number book after
-  pub others : (k : ℕ) → IsBranchOf (code_in a).shape h.number k → (suc k ≡ w.branch → ⊥) → after (suc k) ≡ book (suc k)
+  pub answers : Answers (CodeAlone (seated_code a)) (length (seated_code a).threads) w.branch (after w.branch) r
+  pub keeps : KeepsBook (seated_code a) h.number book after
+  pub others : (k : ℕ) → IsBranchOf (seated_code a).shape h.number k → (suc k ≡ w.branch → ⊥) → after (suc k) ≡ book (suc k)
 
 -- the k-th branch has replied
-pub record HasCalled (a b : Seated) (h : Thread) (k branch : ℕ) : Type 0 where
+pub record BranchHasReplied (a b : Seated) (h : Thread) (k branch : ℕ) : Type 0 where
   pub reply : Reply
-  pub heard : HasHeard b branch reply
+  pub heard : BranchHasReply b branch reply
   pub called : (book : Book) (can : CanCall a h k branch book) → WasCalled a b h book can.job reply
 
 -- each of these branches has its reply
-pub record HaveHeard (s : Seated) (branches : List ℕ) (rs : List Reply) : Type 0 where
+pub record BranchesHaveReplies (s : Seated) (branches : List ℕ) (rs : List Reply) : Type 0 where
   pub count : length rs ≡ length branches
-  pub each : (i b : ℕ) (r : Reply) → slice_get branches i ≡ Some b → slice_get rs i ≡ Some r → HasHeard s b r
+  pub each : (i b : ℕ) (r : Reply) → slice_get branches i ≡ Some b → slice_get rs i ≡ Some r → BranchHasReply s b r
 
 -- the first k branches were called: they have these replies, and were told this fork's jobs
 pub record HaveCalled (a b : Seated) (h : Thread) (k : ℕ) (book : Book) (rs : List Reply) : Type 0 where
   pub after : Book
   pub above : RestAbove b after h.number
-  pub keeps : KeepsBook (code_in a) h.number book after
-  pub told : (pairs : List Answered) → HasTold (code_in a) h.number book pairs → HasTold (code_in a) h.number after (pairs ++ pair_up (jobs_at (code_in a) h) rs)
-  pub rest : (i : ℕ) (w : Written) → k ≤ i → slice_get (jobs_at (code_in a) h) i ≡ Some w → IsJobFor (code_in a) after h.number w
+  pub keeps : KeepsBook (seated_code a) h.number book after
+  pub told : (pairs : List Answered) → HasToldBranches (seated_code a) h.number book pairs → HasToldBranches (seated_code a) h.number after (pairs ++ pair_up (jobs_at (seated_code a) h) rs)
+  pub rest : (i : ℕ) (w : Written) → k ≤ i → slice_get (jobs_at (seated_code a) h) i ≡ Some w → MayTellJob (seated_code a) after h.number w
 
 -- the thread has settled the reply of this branch, its k-th: where it stood for exchanges with the replies before it, it stands for them with that one too
 abbrev pub SettlesReply : Seated → Seated → ℕ → Thread → ℕ → Thread → Type 0
 SettlesReply a b branch h k h1 =
-    (xs : List Exchange) (rs : List Reply) (r : Reply) → length rs ≡ k → HasHeard b branch r →
-    StandsFor (code_in a) h (with_replies xs rs) → StandsFor (code_in a) h1 (with_replies xs (rs ++ r ∷ []))
+    (xs : List Exchange) (rs : List Reply) (r : Reply) → length rs ≡ k → BranchHasReply b branch r →
+    StandsFor (seated_code a) h (with_replies xs rs) → StandsFor (seated_code a) h1 (with_replies xs (rs ++ r ∷ []))
 
 -- The replies are there, and for whatever the threads had been told it is so. The thread, which is now `h1`, has settled them:
 -- where it stood for exchanges with no replies in the last, it stands for them with these.
-pub record Consulted (a b : Seated) (h h1 : Thread) (k : ℕ) : Type 0 where
+pub record HasSettledReplies (a b : Seated) (h h1 : Thread) (k : ℕ) : Type 0 where
   pub within : k ≤ length h.branches.numbers
-  pub leaves : Leaves h.number a b
+  pub leaves : KeepsSeatsBelow h.number a b
   pub replies : List Reply
   pub count : length replies ≡ k
-  pub heard : (i number : ℕ) (r : Reply) → slice_get h.branches.numbers i ≡ Some number → slice_get replies i ≡ Some r → HasHeard b number r
+  pub heard : (i number : ℕ) (r : Reply) → slice_get h.branches.numbers i ≡ Some number → slice_get replies i ≡ Some r → BranchHasReply b number r
   pub called : (book : Book) → CanTell a h book → HaveCalled a b h k book replies
-  pub settled : (xs : List Exchange) → StandsFor (code_in a) h (with_replies xs []) → StandsFor (code_in a) h1 (with_replies xs replies)
+  pub settled : (xs : List Exchange) → StandsFor (seated_code a) h (with_replies xs []) → StandsFor (seated_code a) h1 (with_replies xs replies)
 
 -- ---- replies are joined
 
 -- where the thread stood for exchanges with the replies that were heard, it still does
-abbrev pub JoinsReplies : Seated → Thread → Thread → Type 0
-JoinsReplies s h h1 = (rs : List Reply) (xs : List Exchange) → HaveHeard s h.branches.numbers rs → StandsFor (code_in s) h (with_replies xs rs) → StandsFor (code_in s) h1 (with_replies xs rs)
+abbrev pub JoinsBranchReplies : Seated → Thread → Thread → Type 0
+JoinsBranchReplies s h h1 = (rs : List Reply) (xs : List Exchange) → BranchesHaveReplies s h.branches.numbers rs → StandsFor (seated_code s) h (with_replies xs rs) → StandsFor (seated_code s) h1 (with_replies xs rs)

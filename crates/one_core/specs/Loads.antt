@@ -5,7 +5,7 @@ use Rattle.core_machine.specs.declared.thread.Thread.{Thread}
 use Rattle.core_machine.specs.Threads.{Loaded, IsResting, StandsFor}
 
 -- thread t, which was never started
-pub record IsNew (c : PlainCode) (t : ℕ) (h : Thread) : Type 0 where
+pub record IsNewThread (c : PlainCode) (t : ℕ) (h : Thread) : Type 0 where
   pub loaded : Loaded c h
   pub number : h.number ≡ t
   pub resting : IsResting h
@@ -13,4 +13,4 @@ pub record IsNew (c : PlainCode) (t : ℕ) (h : Thread) : Type 0 where
 
 -- such a thread is in each seat
 abbrev pub AreNew : PlainCode → List (Option Thread) → Type 0
-AreNew c threads = (t : ℕ) (s : Option Thread) → slice_get threads t ≡ Some s → (h : Thread) × (s ≡ Some h) × IsNew c t h
+AreNew c threads = (t : ℕ) (s : Option Thread) → slice_get threads t ≡ Some s → (h : Thread) × (s ≡ Some h) × IsNewThread c t h

@@ -13,8 +13,8 @@ use Rattle.core_machine.specs.declared.thread.Thread.{Thread}
 use Rattle.tick_jobs.specs.Ready.{IsReady}
 use Rattle.tick_jobs.specs.Ticks.{Ticking}
 use Rattle.tick_jobs.specs.Ticks as ticks
-use Rattle.one_core.specs.Seats.{Seated, Sits, IsFitted}
-use Rattle.one_core.specs.Resting.{HasWorked}
+use Rattle.one_core.specs.Seats.{Seated, HoldsThread, HasAllSeats}
+use Rattle.one_core.specs.Resting.{AllRestAfter}
 
 -- `threads`: each in its seat. `root`: the packet of thread 0, in a tick its job, between ticks its reply. `live`: each tick so far has paused
 pub record Single : Type 0 where
@@ -39,22 +39,22 @@ is_live o = o.live
 
 -- what holds between ticks: each thread rests, and thread 0 can be given the job of the next tick where there is one
 pub record IsSingle (o : Single) : Type 0 where
-  pub fitted : IsFitted (seated_in o)
-  pub worked : (jobs : List Job) × HasWorked (seated_in o) jobs
+  pub fitted : HasAllSeats (seated_in o)
+  pub worked : (jobs : List Job) × AllRestAfter (seated_in o) jobs
   pub room : HasRoom (of_shape (code_of o).shape) 0 (plain_packet o.root)
-  pub ready : o.live ≡ true → (t : Thread) → Sits (seated_in o) 0 t → IsReady t o.root.kind
+  pub ready : o.live ≡ true → (t : Thread) → HoldsThread (seated_in o) 0 t → IsReady t o.root.kind
 
 -- ---- what was run
 
 -- thread 0 was given these jobs by the ticks so far, and has replied to each
-pub record HasJobs (o : Single) (jobs : List Job) : Type 0 where
+pub record HasRootJobs (o : Single) (jobs : List Job) : Type 0 where
   pub fit : EachFits (code_of o).shape 0 jobs
-  pub worked : HasWorked (seated_in o) jobs
+  pub worked : AllRestAfter (seated_in o) jobs
 
 -- as what runs ticks
-abbrev pub ticking : Single → Ticking
-ticking o = record { code = code_of o; root = o.root; live = o.live; HasJobs = λ jobs. HasJobs o jobs }
+abbrev pub single_ticking : Single → Ticking
+single_ticking o = record { code = code_of o; root = o.root; live = o.live; HasJobs = λ jobs. HasRootJobs o jobs }
 
 -- these ticks were run, each with its row and its budget, as each kernel for which the code stands runs them
-abbrev pub HasRun : Single → List TickInput → Type 0
-HasRun o turns = ticks.HasRun (ticking o) turns
+abbrev pub OneCoreHasRun : Single → List TickInput → Type 0
+OneCoreHasRun o turns = ticks.HasRun (single_ticking o) turns

@@ -12,22 +12,22 @@ abbrev pub tell : Book → ℕ → Job → Book
 tell book t job j = cond (t == j) (book j ++ job ∷ []) (book j)
 
 -- Thread t told its branches these jobs and no others, and heard these replies, each answering what that branch was told.
-pub record HasTold (c : PlainCode) (t : ℕ) (book : Book) (pairs : List Answered) : Type 0 where
+pub record HasToldBranches (c : PlainCode) (t : ℕ) (book : Book) (pairs : List Answered) : Type 0 where
   pub above : AreAbove t pairs
   pub allowed : Allowed (Answers (CodeAlone c) (length c.threads)) [] pairs
   pub jobs : (k : ℕ) → IsBranchOf c.shape t k → jobs_to (suc k) pairs ≡ book (suc k)
 
 -- the same, by the thread's number
 abbrev pub by_book : PlainCode → Book → ℕ → List Answered → Type 0
-by_book c book t pairs = HasTold c t book pairs
+by_book c book t pairs = HasToldBranches c t book pairs
 
 -- the thread stands for its jobs with the replies of its branches, and has replied to each
-abbrev pub HasDone : PlainCode → Thread → Book → List Job → Type 0
-HasDone c h book jobs = DidJobs c h (by_book c book) jobs
+abbrev pub HasDoneByBook : PlainCode → Thread → Book → List Job → Type 0
+HasDoneByBook c h book jobs = DidJobs c h (by_book c book) jobs
 
 -- the thread has done these jobs, and is at this one
-abbrev pub InJob : PlainCode → Thread → Book → List Job → Job → Type 0
-InJob c h book jobs job = AtJob c h (by_book c book) jobs job
+abbrev pub InJobByBook : PlainCode → Thread → Book → List Job → Job → Type 0
+InJobByBook c h book jobs job = AtJob c h (by_book c book) jobs job
 
 -- what the branches of the threads below t were told is the same
 abbrev pub KeepsBook : PlainCode → ℕ → Book → Book → Type 0
@@ -43,7 +43,7 @@ pub record HasTalked (c : PlainCode) (t : ℕ) (book : Book) (jobs : List Job) :
   pub jobs_are : map (λ x. x.job) exchanges ≡ jobs
   pub runs : CodeAlone c t exchanges outputs
   pub complete : AllReply outputs
-  pub told : HasTold c t book (pair_all exchanges outputs)
+  pub told : HasToldBranches c t book (pair_all exchanges outputs)
 
 -- thread 0 has for these jobs, and each other thread for those that it was told
 pub record HaveTalked (c : PlainCode) (jobs : List Job) : Type 0 where

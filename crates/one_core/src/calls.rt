@@ -8,11 +8,11 @@ ghost use Rattle.combine_tree.specs.Plain.{plain_packet};
 ghost use Rattle.core_machine.specs.Threads.{Loaded, CanBegin, CanRun, HasReply, HasSettled, HasJoined};
 ghost use Rattle.core_machine.specs.Forks.{jobs_at};
 ghost use Rattle.core_machine.specs.declared.thread.Thread.{Thread as PlainThread};
-ghost use Rattle.core_machine.specs.Replies.{Replies_by};
-ghost use Rattle.one_core.specs.Seats.{code_in, IsFitted, Sits, Leaves};
+ghost use Rattle.core_machine.specs.Replies.{RepliesByKind};
+ghost use Rattle.one_core.specs.Seats.{seated_code, HasAllSeats, HoldsThread, KeepsSeatsBelow};
 ghost use Rattle.tick_jobs.specs.Told.{Book};
-ghost use Rattle.one_core.specs.Resting.{HasBegun, StaysAtWork, HasWorked, HasRepliedTo};
-ghost use Rattle.one_core.specs.Called.{IsForked, CanTell, CanCall, HasCalled, SettlesReply, Consulted, HaveHeard, JoinsReplies};
+ghost use Rattle.one_core.specs.Resting.{HasBegun, StaysAtWork, AllRestAfter, RootHasRepliedTo};
+ghost use Rattle.one_core.specs.Called.{IsLoadedFork, CanTell, CanCall, BranchHasReplied, SettlesReply, HasSettledReplies, BranchesHaveReplies, JoinsBranchReplies};
 
 use combine_tree::Packet;
 use core_machine::{Event, Thread};
@@ -43,18 +43,18 @@ impl<'c> Calls<'c> {
     #[inline(always)]
     #[cycle(finish)]
     fn call_branch<G: Gate>(&mut self, gate: &G, thread: &mut Thread, k: usize, branch: u32)
-        requires fitted { IsFitted self.old }
-        requires loaded { Loaded (code_in self.old) thread.old }
+        requires fitted { HasAllSeats self.old }
+        requires loaded { Loaded (seated_code self.old) thread.old }
         requires fork { HasSettled thread.old k }
         requires branch { slice_get thread.old.branches.numbers k ≡ Some branch }
         requires job { (book : Book) × CanCall self.old thread.old k branch book }
-        ensures leaves { Leaves branch self.old self.new }
-        ensures called { HasCalled self.old self.new thread.old k branch }
-        ensures loaded { Loaded (code_in self.old) thread.new }
+        ensures leaves { KeepsSeatsBelow branch self.old self.new }
+        ensures called { BranchHasReplied self.old self.new thread.old k branch }
+        ensures loaded { Loaded (seated_code self.old) thread.new }
         ensures number { thread.new.number ≡ thread.old.number }
         ensures branches { thread.new.branches.numbers ≡ thread.old.branches.numbers }
         ensures order { HasSettled thread.new (k + 1) }
-        ensures jobs { jobs_at (code_in self.old) thread.new ≡ jobs_at (code_in self.old) thread.old }
+        ensures jobs { jobs_at (seated_code self.old) thread.new ≡ jobs_at (seated_code self.old) thread.old }
         ensures stands { SettlesReply self.old self.new branch thread.old k thread.new }
     {
         let Some(mut seated) = self.seats[branch as usize].take() else {
@@ -72,11 +72,11 @@ impl<'c> Calls<'c> {
     /// Has the branches of the thread's fork do their jobs, one after the other, and settles each one's reply.
     #[cycle(finish)]
     fn call_branches<G: Gate>(&mut self, gate: &G, thread: &mut Thread)
-        requires fitted { IsFitted self.old }
-        requires fork { IsForked (code_in self.old) thread.old }
+        requires fitted { HasAllSeats self.old }
+        requires fork { IsLoadedFork (seated_code self.old) thread.old }
         requires jobs { (book : Book) × CanTell self.old thread.old book }
-        ensures called { Consulted self.old self.new thread.old thread.new (length thread.old.branches.numbers) }
-        ensures loaded { Loaded (code_in self.new) thread.new }
+        ensures called { HasSettledReplies self.old self.new thread.old thread.new (length thread.old.branches.numbers) }
+        ensures loaded { Loaded (seated_code self.new) thread.new }
         ensures number { thread.new.number ≡ thread.old.number }
         ensures branches { thread.new.branches.numbers ≡ thread.old.branches.numbers }
         ensures order { HasJoined thread.new 0 }
@@ -90,15 +90,15 @@ impl<'c> Calls<'c> {
 
     /// Joins the thread's branches.
     fn join(&self, thread: &mut Thread)
-        requires loaded { Loaded (code_in self.now) thread.old }
+        requires loaded { Loaded (seated_code self.now) thread.old }
         requires some { 0 < length thread.old.branches.numbers }
         requires few { length thread.old.branches.numbers ≤ MAX_THREADS }
         requires order { HasJoined thread.old 0 }
-        requires heard { (rs : List Reply) × HaveHeard self.now thread.old.branches.numbers rs }
-        ensures loaded { Loaded (code_in self.now) thread.new }
+        requires heard { (rs : List Reply) × BranchesHaveReplies self.now thread.old.branches.numbers rs }
+        ensures loaded { Loaded (seated_code self.now) thread.new }
         ensures number { thread.new.number ≡ thread.old.number }
         ensures running { CanRun thread.new }
-        ensures stands { JoinsReplies self.now thread.old thread.new }
+        ensures stands { JoinsBranchReplies self.now thread.old thread.new }
     {
         let mut k = 0;
         while let Some(branch) = thread.active(self.code, k) {
@@ -115,15 +115,15 @@ impl<'c> Calls<'c> {
     #[inline(never)]
     #[cycle(finish)]
     fn serve_forks<G: Gate>(&mut self, gate: &G, thread: &mut Thread)
-        requires fitted { IsFitted self.old }
-        requires loaded { Loaded (code_in self.old) thread.old }
+        requires fitted { HasAllSeats self.old }
+        requires loaded { Loaded (seated_code self.old) thread.old }
         requires fork { HasSettled thread.old 0 }
-        requires branches { thread.old.branches.numbers ≡ map (λ w. w.branch) (jobs_at (code_in self.old) thread.old) }
+        requires branches { thread.old.branches.numbers ≡ map (λ w. w.branch) (jobs_at (seated_code self.old) thread.old) }
         requires begun { HasBegun self.old thread.old }
-        ensures loaded { Loaded (code_in self.old) thread.new }
+        ensures loaded { Loaded (seated_code self.old) thread.new }
         ensures number { thread.new.number ≡ thread.old.number }
         ensures reply { HasReply thread.new }
-        ensures leaves { Leaves thread.old.number self.old self.new }
+        ensures leaves { KeepsSeatsBelow thread.old.number self.old self.new }
         ensures done { StaysAtWork self.old thread.old self.new thread.new }
     {
         // For the proof alone, which counts the forks down.
@@ -142,14 +142,14 @@ impl<'c> Calls<'c> {
     #[inline(always)]
     #[cycle(finish)]
     pub fn finish<G: Gate>(&mut self, gate: &G, thread: &mut Thread)
-        requires fitted { IsFitted self.old }
-        requires loaded { Loaded (code_in self.old) thread.old }
+        requires fitted { HasAllSeats self.old }
+        requires loaded { Loaded (seated_code self.old) thread.old }
         requires running { CanRun thread.old }
         requires begun { HasBegun self.old thread.old }
-        ensures loaded { Loaded (code_in self.old) thread.new }
+        ensures loaded { Loaded (seated_code self.old) thread.new }
         ensures number { thread.new.number ≡ thread.old.number }
         ensures reply { HasReply thread.new }
-        ensures leaves { Leaves thread.old.number self.old self.new }
+        ensures leaves { KeepsSeatsBelow thread.old.number self.old self.new }
         ensures done { StaysAtWork self.old thread.old self.new thread.new }
     {
         if let Event::Fork = thread.run(self.code) {
@@ -159,17 +159,17 @@ impl<'c> Calls<'c> {
 
     /// Has thread 0, with all threads below it, do the job in this packet. The packet is then its reply.
     pub fn work<G: Gate>(&mut self, gate: &G, packet: &mut Packet)
-        requires fitted { IsFitted self.old }
-        requires worked { (jobs : List Job) × HasWorked self.old jobs }
-        requires job { (t : PlainThread) → Sits self.old 0 t → CanBegin t packet.old.kind }
+        requires fitted { HasAllSeats self.old }
+        requires worked { (jobs : List Job) × AllRestAfter self.old jobs }
+        requires job { (t : PlainThread) → HoldsThread self.old 0 t → CanBegin t packet.old.kind }
         requires is { (job : Job) × IsJob (plain_packet packet.old) job }
-        requires room { HasRoom (of_shape (code_in self.old).shape) 0 (plain_packet packet.old) }
+        requires room { HasRoom (of_shape (seated_code self.old).shape) 0 (plain_packet packet.old) }
         requires small { packet.old.allowance ≤ MAX_BUDGET }
-        ensures fitted { IsFitted self.new }
+        ensures fitted { HasAllSeats self.new }
         ensures code { self.new.code ≡ self.old.code }
-        ensures room { HasRoom (of_shape (code_in self.old).shape) 0 (plain_packet packet.new) }
-        ensures kind { (t : PlainThread) → Sits self.new 0 t → Replies_by t packet.new.kind }
-        ensures replied { HasRepliedTo self.old self.new (plain_packet packet.old) (plain_packet packet.new) }
+        ensures room { HasRoom (of_shape (seated_code self.old).shape) 0 (plain_packet packet.new) }
+        ensures kind { (t : PlainThread) → HoldsThread self.new 0 t → RepliesByKind t packet.new.kind }
+        ensures replied { RootHasRepliedTo self.old self.new (plain_packet packet.old) (plain_packet packet.new) }
     {
         let Some(mut seated) = self.seats[0].take() else {
             unreachable!()

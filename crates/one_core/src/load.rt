@@ -3,7 +3,7 @@
 ghost use Rattle.std.specs.Prelude.{◌≡◌, ◌<◌, IfOk, length};
 ghost use Rattle.thread_code.specs.Plain.{plain_code};
 ghost use Rattle.core_machine.specs.Room.{AreNeeds};
-ghost use Rattle.one_core.specs.Loads.{AreNew, IsNew};
+ghost use Rattle.one_core.specs.Loads.{AreNew, IsNewThread};
 
 use core_machine::{Needs, Thread};
 use forec_base::OutOfMemory;
@@ -20,7 +20,7 @@ fn thread_of(
 ) -> Result<Boxed<Thread>, OutOfMemory>
     requires thread { thread < length (plain_code code.now).threads }
     requires needs { AreNeeds (plain_code code.now) needs.now }
-    ensures { IfOk result (λ h. IsNew (plain_code code.now) thread h) }
+    ensures { IfOk result (λ h. IsNewThread (plain_code code.now) thread h) }
 {
     let loaded = Thread::load_with(alloc, code, needs, thread)?;
     Boxed::new(alloc, loaded)

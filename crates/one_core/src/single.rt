@@ -39,7 +39,7 @@ impl<'c> Model for OneCore<'c> {
 }
 
 impl<'c> OneCore<'c> {
-    ghost use Rattle.one_core.specs.Single.{code_of, ticking, HasJobs};
+    ghost use Rattle.one_core.specs.Single.{code_of, single_ticking, HasRootJobs};
     ghost use Rattle.one_core.specs.Told.{HaveTalked};
 
     /// All threads of a code on one core, the one that the placement has for each of them. No tick was run.
@@ -55,7 +55,7 @@ impl<'c> OneCore<'c> {
         requires placed { length placement.now.places ≡ length (plain_code code.now).threads }
         requires one { is_on_one_core placement.now.places ≡ true }
         ensures code { IfOk result (λ o. code_of o ≡ plain_code code.now) }
-        ensures none { IfOk result (λ o. RanNone (ticking o)) }
+        ensures none { IfOk result (λ o. RanNone (single_ticking o)) }
     {
         let variables = code.shape().variables.len();
         let seats = seats_of(alloc, code, placement.threads())?;
@@ -84,8 +84,8 @@ impl<'c> OneCore<'c> {
         gate: &G,
         outputs: &mut [i32],
     ) -> Outcome
-        requires can { CanTick (ticking self.old) row.now budget outputs.old }
-        ensures runs { RunsTick (ticking self.old) (ticking self.new) row.now budget result outputs.old outputs.new }
+        requires can { CanTick (single_ticking self.old) row.now budget outputs.old }
+        ensures runs { RunsTick (single_ticking self.old) (single_ticking self.new) row.now budget result outputs.old outputs.new }
     {
         let OneCore { calls, root, live } = self;
         let code = calls.code;
@@ -98,7 +98,7 @@ impl<'c> OneCore<'c> {
     /// A law: thread 0 does by itself the jobs of the ticks so far, and each other thread those that it was told, where their
     /// branches are told exactly the jobs that they give, and give these replies.
     pub fn talks(&self)
-        ensures { (jobs : List Job) → HasJobs self.now jobs → HaveTalked (code_of self.now) jobs }
+        ensures { (jobs : List Job) → HasRootJobs self.now jobs → HaveTalked (code_of self.now) jobs }
     {
         let _ = &self.calls;
     }

@@ -6,10 +6,10 @@ use Rattle.forec_kernel.specs.declared.shape.VarCopy.{VarCopy}
 use Rattle.forec_kernel.specs.Values.{copy_of}
 use Rattle.forec_kernel.specs.Combining.{contains}
 use Rattle.running_texts.proofs.Copies.{differ, same}
-use Rattle.running_texts.specs.Lookups.{no_copy, IsAscending, IsLowerBound}
+use Rattle.running_texts.specs.Lookups.{absent_copy, IsAscending, IsLowerBound}
 
 pub copy_found : (us : List ℕ) (cs : List VarCopy) (v k : ℕ) → ((i : ℕ) → i < k → get_or us i 0 < v) → k < length us → get_or us k 0 ≡ v →
-    copy_of us cs v ≡ get_or cs k no_copy
+    copy_of us cs v ≡ get_or cs k absent_copy
 copy_found [] cs v k below p e = absurd (omega arith)
 copy_found (u ∷ us) [] v zero below p e = refl
 copy_found (u ∷ us) [] v (suc k) below p e = refl
@@ -45,12 +45,12 @@ not_there us v k up bound h = is_absent us v apart
             let b : get_or us k 0 ≤ get_or us i 0 = up k i g p in
             h (omega arith) (omega arith)
 
-pub copy_missing : (us : List ℕ) (cs : List VarCopy) (v : ℕ) → contains v us ≡ false → copy_of us cs v ≡ no_copy
+pub copy_missing : (us : List ℕ) (cs : List VarCopy) (v : ℕ) → contains v us ≡ false → copy_of us cs v ≡ absent_copy
 copy_missing [] cs v h = refl
 copy_missing (u ∷ us) [] v h = refl
 copy_missing (u ∷ us) (c ∷ cs) v h = either (u == v) (copy_missing us cs v) h
   where
-    either : (b : Bool) → (contains v us ≡ false → copy_of us cs v ≡ no_copy) → cond b true (contains v us) ≡ false → cond b c (copy_of us cs v) ≡ no_copy
+    either : (b : Bool) → (contains v us ≡ false → copy_of us cs v ≡ absent_copy) → cond b true (contains v us) ≡ false → cond b c (copy_of us cs v) ≡ absent_copy
     either true f e = absurd (cc)
     either false f e = f e
 

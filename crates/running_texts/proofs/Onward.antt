@@ -10,7 +10,7 @@ use Rattle.running_texts.specs.declared.meter.Halt.{Halt}
 use Rattle.running_texts.specs.declared.meter.Halt.TheVariants.{Trapped, Over, OutOfMemory}
 use Rattle.running_texts.specs.declared.functions.Ran.{Ran}
 use Rattle.running_texts.specs.declared.functions.Ran.TheVariants as ran
-use Rattle.running_texts.specs.Metered.{IsMetered, number, numbers, flowing, value_units, values_units}
+use Rattle.running_texts.specs.Metered.{IsMetered, value_kind, values_kind, flowing, value_units, values_units}
 use Rattle.running_texts.proofs.MeteredLemmas.{more_metered, adds_flow, binds_flow, test_ok, test_err, tested_gives, is_zero_of, not_zero_of}
 use Rattle.running_texts.proofs.Tests.{AfterTest}
 use Rattle.forec_base.specs.Numbers.{is_zero}
@@ -68,7 +68,7 @@ after_more ns u n x (AllGive ms w) =
 after_more ns u n x (OneRaises place trap w) = ap (OneRaises place trap) (omega arith)
 
 pub numbers_more : (old mid new : ℕ) (ns more : List ℤ) (whole rest : Values) (v : Value) (x : ℤ) → NumbersSoFar old mid ns whole (first_then v rest) →
-    IsMetered number mid new (Ok x) v → more ≡ ns ++ x ∷ [] → NumbersSoFar old new more whole rest
+    IsMetered value_kind mid new (Ok x) v → more ≡ ns ++ x ∷ [] → NumbersSoFar old new more whole rest
 numbers_more old mid new ns more whole rest v x s m e =
     record {
       units = s.units + m.by.units;
@@ -83,7 +83,7 @@ after_least ns u (Gives n w) (OneRaises place trap x) = omega arith
 after_least ns u (Raises place trap w) rest = omega arith
 
 pub numbers_stop : (old mid new : ℕ) (ns : List ℤ) (whole rest : Values) (v : Value) (h : Halt) → NumbersSoFar old mid ns whole (first_then v rest) →
-    IsMetered number mid new (Err h) v → IsMetered numbers old new (Err h) whole
+    IsMetered value_kind mid new (Err h) v → IsMetered values_kind old new (Err h) whole
 numbers_stop old mid new ns whole rest v (Trapped place trap) s m =
     record {
       by = record {
@@ -99,7 +99,7 @@ numbers_stop old mid new ns whole rest v Over s m =
 numbers_stop old mid new ns whole rest v OutOfMemory s m = record { by = tt }
 
 pub numbers_end : (old now : ℕ) (v : Vec ℤ Global) (whole rest : Values) → NumbersSoFar old now v.items whole rest → rest ≡ AllGive [] 0 →
-    IsMetered numbers old now (Ok v) whole
+    IsMetered values_kind old now (Ok v) whole
 numbers_end old now v whole rest s e =
     record {
       by = record {

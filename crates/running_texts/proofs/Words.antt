@@ -7,9 +7,9 @@ use Rattle.forec_kernel.specs.Plain.{stmt}
 use Rattle.forec_kernel.specs.Shapes.{PlainKernel, plain_kernel}
 use Rattle.forec_kernel.specs.declared.shape.KernelParts.{KernelParts}
 use Rattle.forec_kernel.specs.declared.terms.Statement.{Statement}
-use Rattle.forec_kernel.specs.Values.{function_words, fresh_words, call_within, flow, returned}
+use Rattle.forec_kernel.specs.Values.{function_words, fresh_words, call_within, flow, flow_value}
 use Rattle.running_texts.specs.declared.meter.Halt.{Halt}
-use Rattle.running_texts.specs.Metered.{IsMetered, number, setting_within}
+use Rattle.running_texts.specs.Metered.{IsMetered, value_kind, setting_within}
 
 pub function_words_at : (fs : List FunctionShape) (f : ℕ) (d : FunctionShape) → f < length fs → (get_or fs f d).words ≡ function_words fs f
 function_words_at [] f d h = absurd (omega arith)
@@ -42,10 +42,10 @@ body_of_call k f x h read = get_or_map k.functions.items f x h read
 -- a call, one level down
 pub called : (k : PlainKernel) (deep f : ℕ) (args words : List ℤ) (s : Stmt) (old new : ℕ) (r : Result ℤ Halt) → 0 < deep →
     get_or k.functions f Nop ≡ s → words ≡ fresh_words args (function_words k.shape.functions f) →
-    IsMetered number old new r (returned (flow (setting_within k (deep - 1)) s words)) → IsMetered number old new r (call_within k deep f args)
+    IsMetered value_kind old new r (flow_value (flow (setting_within k (deep - 1)) s words)) → IsMetered value_kind old new r (call_within k deep f args)
 called k zero f args words s old new r some body same m = absurd (omega arith)
 called k (suc deep) f args words s old new r some body same m =
     let less : suc deep - 1 ≡ deep = omega arith in
-    subst (λ d. IsMetered number old new r (returned (flow (setting_within k d) (get_or k.functions f Nop) (fresh_words args (function_words k.shape.functions f))))) less
-    (subst (λ w. IsMetered number old new r (returned (flow (setting_within k (suc deep - 1)) (get_or k.functions f Nop) w))) same
-    (subst (λ b. IsMetered number old new r (returned (flow (setting_within k (suc deep - 1)) b words))) (sym body) m))
+    subst (λ d. IsMetered value_kind old new r (flow_value (flow (setting_within k d) (get_or k.functions f Nop) (fresh_words args (function_words k.shape.functions f))))) less
+    (subst (λ w. IsMetered value_kind old new r (flow_value (flow (setting_within k (suc deep - 1)) (get_or k.functions f Nop) w))) same
+    (subst (λ b. IsMetered value_kind old new r (flow_value (flow (setting_within k (suc deep - 1)) b words))) (sym body) m))

@@ -10,7 +10,7 @@ use Rattle.forec_kernel.specs.Combining.{contains, takes_part, variable_of, comb
 use Rattle.std.specs.declared.vec.Vec.{Vec}
 use Rattle.std.specs.declared.alloc.Global.{Global}
 use Rattle.running_texts.specs.declared.folds.Fold.{Fold}
-use Rattle.running_texts.specs.Metered.{Kind}
+use Rattle.running_texts.specs.Metered.{ResultKind}
 
 -- what adding one branch to a fold comes to: the fold's value, none where no branch has taken part
 pub data Added : Type 0 where
@@ -92,12 +92,12 @@ abbrev pub added_units : Added → ℕ
 added_units (Comes total u) = u
 added_units (Stays place trap u) = u
 
-abbrev pub adding : Kind (Option ℤ) Added
+abbrev pub adding : ResultKind (Option ℤ) Added
 adding = record { gives = Comes; stops = Stays; units = added_units }
 
 abbrev pub folds_units : Folds → ℕ
 folds_units (Come es u) = u
 folds_units (Stop place trap u) = u
 
-abbrev pub folding : Kind (Vec Fold Global) Folds
+abbrev pub folding : ResultKind (Vec Fold Global) Folds
 folding = record { gives = λ v u. Come v.items u; stops = Stop; units = folds_units }

@@ -4,8 +4,8 @@ use Rattle.forec_kernel.specs.declared.shape.VarCopy.{VarCopy}
 use Rattle.running_texts.specs.declared.lookup.Lookup.{Lookup}
 
 -- the copy of a variable that a thread doesn't use
-abbrev pub no_copy : VarCopy
-no_copy = record { value = pos 0; modified = false }
+abbrev pub absent_copy : VarCopy
+absent_copy = record { value = pos 0; modified = false }
 
 -- no number of a list is below one before it
 abbrev pub IsAscending : List ℕ → Type 0

@@ -5,7 +5,7 @@ ghost use Rattle.forec_kernel.specs.Plain.{expr, exprs, stmt, stmts};
 ghost use Rattle.forec_kernel.specs.Shapes.{plain_kernel};
 ghost use Rattle.forec_kernel.specs.Terms.{And, Or};
 ghost use Rattle.forec_kernel.specs.Values.{val, vals, flow, flows, call_within, words_alone};
-ghost use Rattle.running_texts.specs.Metered.{IsMetered, number, numbers, flowing, setting_within, sight_of, bounded_flow};
+ghost use Rattle.running_texts.specs.Metered.{IsMetered, value_kind, values_kind, flowing, setting_within, sight_of, bounded_flow};
 
 use crate::functions::{
     Element, Ran, after_set, after_set_at, as_return, as_value, clear, function_word_count,
@@ -59,7 +59,7 @@ pub fn evaluate(
     e: &Expression,
     left: &mut u64,
 ) -> Result<i32, Halt>
-    ensures { IsMetered number left.old left.new result
+    ensures { IsMetered value_kind left.old left.new result
         (val (setting_within (plain_kernel kernel.now) deep) (sight_of values.now) (expr e.now)) }
 {
     match e {
@@ -159,7 +159,7 @@ fn evaluate_and(
     second: &Expression,
     left: &mut u64,
 ) -> Result<i32, Halt>
-    ensures { IsMetered number left.old left.new result
+    ensures { IsMetered value_kind left.old left.new result
         (val (setting_within (plain_kernel kernel.now) deep) (sight_of values.now)
         (And (expr first.now) (expr second.now))) }
 {
@@ -187,7 +187,7 @@ fn evaluate_or(
     second: &Expression,
     left: &mut u64,
 ) -> Result<i32, Halt>
-    ensures { IsMetered number left.old left.new result
+    ensures { IsMetered value_kind left.old left.new result
         (val (setting_within (plain_kernel kernel.now) deep) (sight_of values.now)
         (Or (expr first.now) (expr second.now))) }
 {
@@ -214,7 +214,7 @@ pub fn evaluate_all(
     list: &[Expression],
     left: &mut u64,
 ) -> Result<Vec<i32>, Halt>
-    ensures { IsMetered numbers left.old left.new result
+    ensures { IsMetered values_kind left.old left.new result
         (vals (setting_within (plain_kernel kernel.now) deep) (sight_of values.now) (exprs list.now)) }
 {
     let mut numbers = Vec::new(alloc);
@@ -241,7 +241,7 @@ pub(crate) fn call_function(
     args: &[i32],
     left: &mut u64,
 ) -> Result<i32, Halt>
-    ensures { IsMetered number left.old left.new result (call_within (plain_kernel kernel.now) deep function args.now) }
+    ensures { IsMetered value_kind left.old left.new result (call_within (plain_kernel kernel.now) deep function args.now) }
 {
     if deep == 0 {
         return Ok(0);

@@ -2,8 +2,8 @@
 
 ghost use Rattle.std.specs.Prelude.{◌≡◌, ◌<◌, ◌+◌, ℕ, ℤ, IfOk, slice_set, vec_len};
 ghost use Rattle.forec_base.specs.Numbers.{is_zero};
-ghost use Rattle.forec_kernel.specs.Values.{Flow, Goes, Returns, cleared, index_in, stored, stored_at, returned, fresh_words, function_words};
-ghost use Rattle.running_texts.specs.Metered.{IsMetered, IsFlowAfter, number, flowing};
+ghost use Rattle.forec_kernel.specs.Values.{Flow, Goes, Returns, cleared, index_in, stored_flow, stored_at, flow_value, fresh_words, function_words};
+ghost use Rattle.running_texts.specs.Metered.{IsMetered, IsFlowAfter, value_kind, flowing};
 
 use crate::meter::{Halt, pay};
 use crate::operators::index_within;
@@ -73,7 +73,7 @@ pub(crate) fn after_set(
     part: Result<i32, Halt>,
     left: &mut u64,
 ) -> Result<Ran, Halt>
-    ensures { IsFlowAfter part left.old left.new result (λ n. stored words.items to n) }
+    ensures { IsFlowAfter part left.old left.new result (λ n. stored_flow words.items to n) }
 {
     match part {
         Ok(n) => match pay(1, left) {
@@ -144,7 +144,7 @@ pub(crate) fn as_return(part: Result<i32, Halt>) -> Result<Ran, Halt>
 
 /// What a body gives: it always returns.
 pub(crate) fn as_value(part: Result<Ran, Halt>) -> Result<i32, Halt>
-    ensures { (old new : ℕ) (f : Flow) → IsMetered flowing old new part f → IsMetered number old new result (returned f) }
+    ensures { (old new : ℕ) (f : Flow) → IsMetered flowing old new part f → IsMetered value_kind old new result (flow_value f) }
 {
     match part {
         Ok(Ran::Continues(_)) => Ok(0),

@@ -3,7 +3,7 @@
 ghost use Rattle.std.specs.Prelude.{◌≡◌, true, get_or, cond, Some, None};
 ghost use Rattle.forec_kernel.specs.Combining.{contains};
 ghost use Rattle.forec_kernel.specs.Values.{copy_of};
-ghost use Rattle.running_texts.specs.Lookups.{no_copy, IsAscending, IsLookup, IsLowerBound};
+ghost use Rattle.running_texts.specs.Lookups.{absent_copy, IsAscending, IsLookup, IsLowerBound};
 
 use crate::folds::has;
 use crate::operators::copy_in;
@@ -42,7 +42,7 @@ fn lower_bound(uses: &[u32], variable: u32) -> usize
 }
 
 fn copy_at(copies: &[VarCopy], at: usize) -> VarCopy
-    ensures { result ≡ get_or copies.now at no_copy }
+    ensures { result ≡ get_or copies.now at absent_copy }
 {
     match copies.get(at) {
         Some(copy) => *copy,

@@ -2,7 +2,7 @@
 
 ghost use Rattle.std.specs.Prelude.{◌≡◌, ◌<◌, ◌+◌, OnOk, IfErr, ℕ};
 ghost use Rattle.forec_kernel.specs.Values.{Gives};
-ghost use Rattle.running_texts.specs.Metered.{IsMetered, IsNumberAfter, number};
+ghost use Rattle.running_texts.specs.Metered.{IsMetered, IsNumberAfter, value_kind};
 
 use forec_base::{Place, Trap};
 use std::alloc::{AllocError, AllocFailed};
@@ -49,7 +49,7 @@ pub fn pay(units: u64, left: &mut u64) -> Result<(), Halt>
 
 /// Gives a number for one unit.
 pub(crate) fn give(n: i32, left: &mut u64) -> Result<i32, Halt>
-    ensures { IsMetered number left.old left.new result (Gives n 1) }
+    ensures { IsMetered value_kind left.old left.new result (Gives n 1) }
 {
     if *left == 0 {
         return Err(Halt::Over);

@@ -3,7 +3,7 @@
 ghost use Rattle.std.specs.Prelude.{◌≡◌, ◌<◌, ◌+◌, ◌^◌, ℕ, ℤ, map, length, [], pos, get_or, not};
 ghost use Rattle.forec_base.specs.Numbers.{unary_of, binary_of, truth, is_zero};
 ghost use Rattle.forec_kernel.specs.Values.{word, copy_of, index_in, at_index, Gives, Raises, divided};
-ghost use Rattle.running_texts.specs.Metered.{IsMetered, IsNumberAfter, number};
+ghost use Rattle.running_texts.specs.Metered.{IsMetered, IsNumberAfter, value_kind};
 
 use crate::meter::{Halt, give};
 use forec_base::{Binary, Place, Trap, Unary, binary, unary};
@@ -72,7 +72,7 @@ pub(crate) fn after_unary(op: Unary, part: Result<i32, Halt>, left: &mut u64) ->
 
 /// Stops at a place, for one unit.
 fn stop(place: Place, trap: Trap, left: &mut u64) -> Result<i32, Halt>
-    ensures { IsMetered number left.old left.new result (Raises place trap 1) }
+    ensures { IsMetered value_kind left.old left.new result (Raises place trap 1) }
 {
     if *left == 0 {
         return Err(Halt::Over);
@@ -83,7 +83,7 @@ fn stop(place: Place, trap: Trap, left: &mut u64) -> Result<i32, Halt>
 
 /// A division by zero stops at its place.
 fn divide(value: Option<i32>, place: Option<Place>, left: &mut u64) -> Result<i32, Halt>
-    ensures { IsMetered number left.old left.new result (divided value place) }
+    ensures { IsMetered value_kind left.old left.new result (divided value place) }
 {
     match value {
         Some(n) => give(n, left),

@@ -9,7 +9,7 @@ use Rattle.forec_kernel.specs.declared.shape.VarCopy.{VarCopy}
 use Rattle.forec_kernel.specs.declared.terms.Statement.{Statement}
 use Rattle.forec_kernel.specs.Plain.{stmt, stmts}
 use Rattle.forec_kernel.specs.Shapes.{PlainKernel}
-use Rattle.forec_kernel.specs.Texts.{Text, Done, Then, Go_on, then_list, text_of, texts_of}
+use Rattle.forec_kernel.specs.Texts.{RunningText, Done, Then, Go_on, then_list, text_of, texts_of}
 use Rattle.forec_kernel.specs.Steps.{Path, Move, Finished, Halts, Moves, Traps, text_move}
 use Rattle.running_threads.specs.declared.threads.Frame.{Frame}
 use Rattle.running_threads.specs.declared.threads.Frame.TheVariants as frame
@@ -18,7 +18,7 @@ use Rattle.running_threads.specs.Moves.{framed_move, plugged_move}
 
 -- ---- one more frame inside
 
-pub plugged_in : (fs gs : List Frame) (R : Text) → plugged (fs ++ gs) R ≡ plugged fs (plugged gs R)
+pub plugged_in : (fs gs : List Frame) (R : RunningText) → plugged (fs ++ gs) R ≡ plugged fs (plugged gs R)
 plugged_in [] gs R = refl
 plugged_in (f ∷ fs) gs R = ap (framed f) (plugged_in fs gs R)
 
@@ -28,7 +28,7 @@ plugged_move_in (f ∷ fs) gs w c m = ap (framed_move f w c) (plugged_move_in fs
 
 -- ---- a step of the focus is a step of the whole text
 
-pub move_plugged : (k : PlainKernel) (path : Path) (uses : List ℕ) (w : List ℤ) (c : List VarCopy) (fs : List Frame) (R : Text) →
+pub move_plugged : (k : PlainKernel) (path : Path) (uses : List ℕ) (w : List ℤ) (c : List VarCopy) (fs : List Frame) (R : RunningText) →
     text_move k path uses w c (plugged fs R) ≡ plugged_move fs w c (text_move k path uses w c R)
 move_plugged k path uses w c [] R = refl
 move_plugged k path uses w c (frame.Rest list ∷ fs) R = ap (framed_move (frame.Rest list) w c) (move_plugged k path uses w c fs R)
@@ -36,7 +36,7 @@ move_plugged k path uses w c (frame.Again turn ∷ fs) R = ap (framed_move (fram
 move_plugged k path uses w c (frame.Watch weak e ∷ fs) R = ap (framed_move (frame.Watch weak e) w c) (move_plugged k path uses w c fs R)
 move_plugged k path uses w c (frame.Last ∷ fs) R = ap (framed_move frame.Last w c) (move_plugged k path uses w c fs R)
 
-pub plugged_goes : (fs : List Frame) (w w' : List ℤ) (c c' : List VarCopy) (R : Text) (u : ℕ) → plugged_move fs w c (Moves R w' c' u) ≡ Moves (plugged fs R) w' c' u
+pub plugged_goes : (fs : List Frame) (w w' : List ℤ) (c c' : List VarCopy) (R : RunningText) (u : ℕ) → plugged_move fs w c (Moves R w' c' u) ≡ Moves (plugged fs R) w' c' u
 plugged_goes [] w w' c c' R u = refl
 plugged_goes (frame.Rest list ∷ fs) w w' c c' R u = ap (framed_move (frame.Rest list) w c) (plugged_goes fs w w' c c' R u)
 plugged_goes (frame.Again turn ∷ fs) w w' c c' R u = ap (framed_move (frame.Again turn) w c) (plugged_goes fs w w' c c' R u)
@@ -55,11 +55,11 @@ plugged_traps (frame.Last ∷ fs) w c place trap u = ap (framed_move frame.Last 
 suc_not_zero : (n : ℕ) → (suc n == 0) ≡ false
 suc_not_zero n = grind (arith, nat_tests)
 
-pub then_list_some : (R : Text) (xs : List Statement) → (length xs == 0) ≡ false → Then R (Go_on (stmts xs)) ≡ then_list R (stmts xs)
+pub then_list_some : (R : RunningText) (xs : List Statement) → (length xs == 0) ≡ false → Then R (Go_on (stmts xs)) ≡ then_list R (stmts xs)
 then_list_some R [] e = cc
 then_list_some R (x ∷ xs) e = refl
 
-pub then_list_none : (R : Text) (xs : List Statement) → (length xs == 0) ≡ true → R ≡ then_list R (stmts xs)
+pub then_list_none : (R : RunningText) (xs : List Statement) → (length xs == 0) ≡ true → R ≡ then_list R (stmts xs)
 then_list_none R [] e = refl
 then_list_none R (x ∷ xs) e = let n = suc_not_zero (length xs) in cc
 
@@ -77,19 +77,19 @@ texts_some (y ∷ ys) x e read =
 
 -- ---- leaving frames
 
-pub resumed : (fs gs : List Frame) (f : Frame) (R : Text) → fs ≡ gs ++ f ∷ [] →
+pub resumed : (fs gs : List Frame) (f : Frame) (R : RunningText) → fs ≡ gs ++ f ∷ [] →
     ((w : List ℤ) (c : List VarCopy) → framed_move f w c Finished ≡ Moves R w c 0) →
     (w : List ℤ) (c : List VarCopy) → plugged_move fs w c Finished ≡ Moves (plugged gs R) w c 0
 resumed fs gs f R e h w c =
     ap (λ l. plugged_move l w c Finished) e ∙ plugged_move_in gs (f ∷ []) w c Finished ∙ ap (plugged_move gs w c) (h w c) ∙ plugged_goes gs w w c c R 0
 
 -- the same at a frame that is known by an equation
-pub resumed_as : (fs gs : List Frame) (f g : Frame) (R : Text) → fs ≡ gs ++ f ∷ [] → f ≡ g →
+pub resumed_as : (fs gs : List Frame) (f g : Frame) (R : RunningText) → fs ≡ gs ++ f ∷ [] → f ≡ g →
     ((w : List ℤ) (c : List VarCopy) → framed_move g w c Finished ≡ Moves R w c 0) →
     (w : List ℤ) (c : List VarCopy) → plugged_move fs w c Finished ≡ Moves (plugged gs R) w c 0
 resumed_as fs gs f g R e is h = resumed fs gs g R (e ∙ ap (λ x. gs ++ x ∷ []) is) h
 
-pub one_more : (fs gs : List Frame) (f : Frame) (R : Text) → gs ≡ fs ++ f ∷ [] → plugged gs R ≡ plugged fs (framed f R)
+pub one_more : (fs gs : List Frame) (f : Frame) (R : RunningText) → gs ≡ fs ++ f ∷ [] → plugged gs R ≡ plugged fs (framed f R)
 one_more fs gs f R e = ap (λ l. plugged l R) e ∙ plugged_in fs (f ∷ []) R
 
 pub halts_past : (fs : List Frame) (at : ℕ) (f : Frame) → at < length fs → f ≡ get_or fs at f → (w : List ℤ) (c : List VarCopy) →

@@ -42,7 +42,7 @@ pub record Resumes (old new : List Frame) (result : Option Focus) : Type 0 where
   pub by : ResumesAs old new result
 
 -- what takes the place of a focus
-abbrev pub next_text : NextText → plain.Text
+abbrev pub next_text : NextText → plain.RunningText
 next_text next.Done = plain.Done
 next_text next.Rests = plain.Resting
 next_text (next.Does s) = text_of (stmt s.now)

@@ -2,7 +2,7 @@
 
 ghost use Rattle.std.specs.Prelude.{◌≡◌, IfOk};
 ghost use Rattle.forec_kernel.specs.Texts.{is_running, is_active, is_over, some_running, all_over, runs_at, first_trap, trap_of, ended_is_gone, ended_are_gone};
-ghost use Rattle.running_threads.specs.Views.{threads, standing, focused, plain_thread};
+ghost use Rattle.running_threads.specs.Views.{threads, plain_status, focused, plain_running_thread};
 ghost use Rattle.running_threads.specs.Moves.{first_is_gone};
 
 use crate::threads::{Children, Focus, Status, Thread};
@@ -11,20 +11,20 @@ use std::alloc::{AllocError, Global};
 
 /// Whether a thread that stands so can step.
 pub fn runs(status: Status) -> bool
-    ensures { result ≡ is_running (standing status) }
+    ensures { result ≡ is_running (plain_status status) }
 {
     matches!(status, Status::Running)
 }
 
 /// Whether a thread that stands so has not ended in an earlier tick.
 pub fn ran(status: Status) -> bool
-    ensures { result ≡ is_active (standing status) }
+    ensures { result ≡ is_active (plain_status status) }
 {
     !matches!(status, Status::Gone)
 }
 
 fn is_done(status: Status) -> bool
-    ensures { result ≡ is_over (standing status) }
+    ensures { result ≡ is_over (plain_status status) }
 {
     matches!(status, Status::Ended | Status::Gone)
 }
@@ -66,7 +66,7 @@ pub fn runs_there(at: u32, children: &Children<'_>) -> bool
 }
 
 fn trap_in(status: Status) -> Option<(Place, Trap)>
-    ensures { result ≡ trap_of (standing status) }
+    ensures { result ≡ trap_of (plain_status status) }
 {
     match status {
         Status::Trapped { place, trap } => Some((place, trap)),
@@ -88,7 +88,7 @@ pub fn leftmost_trap(children: &Children<'_>) -> Option<(Place, Trap)>
 }
 
 fn gone_if_ended(status: Status) -> Status
-    ensures { standing result ≡ ended_is_gone (standing status) }
+    ensures { plain_status result ≡ ended_is_gone (plain_status status) }
 {
     match status {
         Status::Ended => Status::Gone,
@@ -142,7 +142,7 @@ pub fn duplicate_focus<'k>(alloc: Global, from: &Focus<'k>) -> Result<Focus<'k>,
 /// A thread like another.
 #[cycle(copying)]
 pub fn duplicate_thread<'k>(alloc: Global, from: &Thread<'k>) -> Result<Thread<'k>, AllocError>
-    ensures { IfOk result (λ x. plain_thread x ≡ plain_thread from.now) }
+    ensures { IfOk result (λ x. plain_running_thread x ≡ plain_running_thread from.now) }
 {
     let focus = duplicate_focus(alloc, &from.focus)?;
     let frames = Vec::from_slice(alloc, &from.frames)?;

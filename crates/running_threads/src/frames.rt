@@ -15,7 +15,7 @@ use std::alloc::{AllocError, Global};
 
 /// A frame for the statements that follow the first of a sequence, if there are any.
 fn push_rest<'k>(frames: &mut Vec<Frame<'k>>, rest: &'k [Statement]) -> Result<(), AllocError>
-    ensures { IfOk result (λ _. (R : plain.Text) → plugged frames.new.items R ≡ plugged frames.old.items (plain.then_list R (stmts rest.now))) }
+    ensures { IfOk result (λ _. (R : plain.RunningText) → plugged frames.new.items R ≡ plugged frames.old.items (plain.then_list R (stmts rest.now))) }
 {
     if rest.is_empty() {
         return Ok(());

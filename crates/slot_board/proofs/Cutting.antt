@@ -12,15 +12,15 @@ use Rattle.copy_slots.specs.declared.view.Role.{Role}
 use Rattle.copy_slots.specs.declared.view.Role.TheVariants.{Idle, Keeper}
 use Rattle.copy_slots.specs.declared.view.View.{View}
 use Rattle.copy_slots.specs.Mail.{new_sender, new_taker}
-use Rattle.copy_slots.specs.SeatEnds.{IsBoard, Sits, Watches}
-use Rattle.copy_slots.specs.Ports.{Ends, PortState, sender_in, taker_in, root_of, stored_of, stops_of}
+use Rattle.copy_slots.specs.SeatEnds.{IsBoard, HasEnds, Watches}
+use Rattle.copy_slots.specs.Ports.{MailboxEnds, PortState, sender_in, taker_in, is_keeper, stored_of, stops_of}
 use Rattle.copy_slots.proofs.SeatEndLemmas.{role_is}
 use Rattle.copy_slots.proofs.Seating.{rewatches, snoc_cases}
 use Rattle.slot_board.specs.declared.seats.EndSeats.{EndSeats}
 use Rattle.slot_board.specs.declared.seats.CoreSeats.{CoreSeats}
 use Rattle.slot_board.specs.Slots.{PairSits, AllPairs, sender_of, taker_of, pair_ends, is_watch}
 use Rattle.slot_board.specs.Splits.{pick}
-use Rattle.slot_board.specs.Dealt.{ends_of_core, core_state, IsNew, AllNew, taken_by_core, left_by_core, IsCut, FitsCore, AllFit, seats_state, Waits, spare_role}
+use Rattle.slot_board.specs.Dealt.{ends_of_core, core_state, AreNewEnds, AllNew, taken_by_core, left_by_core, IsCut, BelongsToTable, BelongToTable, seats_state, IsLeftToDeal, spare_role}
 use Rattle.slot_board.proofs.Pairing.{both_of}
 
 same_core : (a b : ℕ) → (a == b) ≡ true → a ≡ b
@@ -101,7 +101,7 @@ module _ (Q : Type 0) (root n core : ℕ) where
   watch_role = pick (core == root) (spare_role root n core) (Idle [])
 
   abbrev Says : Bool → Role Q → Type 0
-  Says b role = (root_of role ≡ b) × (stored_of role ≡ false) × (stops_of role ≡ []) × (is_watch role ≡ true)
+  Says b role = (is_keeper role ≡ b) × (stored_of role ≡ false) × (stops_of role ≡ []) × (is_watch role ≡ true)
 
   pub watch_says : Says (core == root) watch_role
   watch_says = go (core == root) refl
@@ -113,20 +113,20 @@ module _ (Q : Type 0) (root n core : ℕ) where
 -- ---- seats
 
 module _ {W P Q : Type 0} (z : TableId) (work : W) (blanks : List Q) where
-  pub new_more : (l : List (EndSeats W P Q)) (k : ℕ) (b : EndSeats W P Q) → length l ≡ k → AllNew z work blanks l → IsNew z work blanks k b.parent b.child → AllNew z work blanks (l ++ b ∷ [])
+  pub new_more : (l : List (EndSeats W P Q)) (k : ℕ) (b : EndSeats W P Q) → length l ≡ k → AllNew z work blanks l → AreNewEnds z work blanks k b.parent b.child → AllNew z work blanks (l ++ b ∷ [])
   new_more l k b long all h j s e = ⊎_elim
-      (λ (t : (j ≡ length l) × (b ≡ s)). subst (λ (q : ℕ × EndSeats W P Q). IsNew z work blanks q.0 q.1.parent q.1.child) (λ i. (sym (t.0 ∙ long) i, t.1 i)) h)
+      (λ (t : (j ≡ length l) × (b ≡ s)). subst (λ (q : ℕ × EndSeats W P Q). AreNewEnds z work blanks q.0 q.1.parent q.1.child) (λ i. (sym (t.0 ∙ long) i, t.1 i)) h)
       (λ t. all j s t) (snoc_cases l b s j e)
 
-  new_sits : (k : ℕ) (p c : Option (Seat (Option P) (View W Q))) → IsNew z work blanks k p c → PairSits z work blanks k p c
+  new_sits : (k : ℕ) (p c : Option (Seat (Option P) (View W Q))) → AreNewEnds z work blanks k p c → PairSits z work blanks k p c
   new_sits k p c h = record {
-    of_parent = λ s e. subst (λ (q : Seat (Option P) (View W Q)). Sits z work blanks k (Some (sender_in q.me.0.role)) None q) (some_is h.parent.0 s (sym h.parent.1 ∙ e))
-        (subst (λ (x : Sender Q). Sits z work blanks k (Some x) None h.parent.0) (sym (ap sender_in (role_is z work blanks k (Some new_sender) None h.parent.0 h.parent.2))) h.parent.2);
-    of_child = λ s e. subst (λ (q : Seat (Option P) (View W Q)). Sits z work blanks k None (Some (taker_in q.me.0.role)) q) (some_is h.child.0 s (sym h.child.1 ∙ e))
-        (subst (λ (y : Taker Q). Sits z work blanks k None (Some y) h.child.0) (sym (ap taker_in (role_is z work blanks k None (Some new_taker) h.child.0 h.child.2))) h.child.2);
+    of_parent = λ s e. subst (λ (q : Seat (Option P) (View W Q)). HasEnds z work blanks k (Some (sender_in q.me.0.role)) None q) (some_is h.parent.0 s (sym h.parent.1 ∙ e))
+        (subst (λ (x : Sender Q). HasEnds z work blanks k (Some x) None h.parent.0) (sym (ap sender_in (role_is z work blanks k (Some new_sender) None h.parent.0 h.parent.2))) h.parent.2);
+    of_child = λ s e. subst (λ (q : Seat (Option P) (View W Q)). HasEnds z work blanks k None (Some (taker_in q.me.0.role)) q) (some_is h.child.0 s (sym h.child.1 ∙ e))
+        (subst (λ (y : Taker Q). HasEnds z work blanks k None (Some y) h.child.0) (sym (ap taker_in (role_is z work blanks k None (Some new_taker) h.child.0 h.child.2))) h.child.2);
   }
 
-  pub new_waits : (ends : List (ℕ × ℕ)) (l : List (EndSeats W P Q)) → length l ≡ length ends → AllNew z work blanks l → Waits z work blanks 0 ends l
+  pub new_waits : (ends : List (ℕ × ℕ)) (l : List (EndSeats W P Q)) → length l ≡ length ends → AllNew z work blanks l → IsLeftToDeal z work blanks 0 ends l
   new_waits ends l long all = record {
     long = long;
     sits = λ k p e. new_sits k p.parent p.child (all k p e);
@@ -146,7 +146,7 @@ module _ {W P Q : Type 0} (z : TableId) (work : W) (blanks : List Q) where
   left true p s e = no_seat s e
   left false p s e = e
 
-  module _ (core : ℕ) (ends : List (ℕ × ℕ)) (old mine rest : List (EndSeats W P Q)) (waits : Waits z work blanks core ends old) (cut : IsCut core ends old mine rest) where
+  module _ (core : ℕ) (ends : List (ℕ × ℕ)) (old mine rest : List (EndSeats W P Q)) (waits : IsLeftToDeal z work blanks core ends old) (cut : IsCut core ends old mine rest) where
     -- where a seat of either list comes from
     mine_from : (k : ℕ) (q : EndSeats W P Q) → slice_get mine k ≡ Some q → (e : ℕ × ℕ) × (p : EndSeats W P Q) × (slice_get ends k ≡ Some e) × (slice_get old k ≡ Some p) × (q ≡ taken_by_core core e p)
     mine_from k q at = let near = slice_get_within mine k q at in let n = cut.mine_long in let m = waits.long in let p = get_there old k (omega arith) in let e = get_there ends k (omega arith) in
@@ -174,7 +174,7 @@ module _ {W P Q : Type 0} (z : TableId) (work : W) (blanks : List Q) where
         go true e = let same = same_core a core e in absurd (omega arith)
         go false e = is
 
-    pub cut_waits : Waits z work blanks (core + 1) ends rest
+    pub cut_waits : IsLeftToDeal z work blanks (core + 1) ends rest
     cut_waits = record {
       long = cut.rest_long ∙ waits.long;
       sits = λ k q at. let t = rest_from k q at in subst (λ (s : EndSeats W P Q). PairSits z work blanks k s.parent s.child) (sym t.4)
@@ -206,10 +206,10 @@ module _ {W P Q : Type 0} (z : TableId) (work : W) (blanks : List Q) where
         (λ k q e at here. let t = mine_from k q at in let same : t.0 ≡ e = some_is t.0 e (sym t.2 ∙ here) in
         ap (λ (s : EndSeats W P Q). pair_ends (both_of s)) t.4 ∙ subst (λ (d : ℕ × ℕ). pair_ends (both_of (taken_by_core core d t.1)) ≡ ends_of_core core e) (sym same)
         (let a = is_mine e.0 t.1.parent new_sender (λ n. waits.parent k e t.1 here t.3 n) in let b = is_my_child e.1 t.1.child new_taker (λ n. waits.child k e t.1 here t.3 n) in
-        λ i. let r : Ends Q = record { parent = a i; child = b i } in r))
+        λ i. let r : MailboxEnds Q = record { parent = a i; child = b i } in r))
 
     -- the seats of the core, with the one that looks at the stop word
-    pub core_fits : (root n : ℕ) (watch : Seat (Option P) (View W Q)) → (length ends < 2 ^ 32) × IsBoard z (length ends) → Watches z work blanks (watch_role Q root n core) watch → (h : CoreSeats W P Q) → h.watch ≡ watch → h.seats.items ≡ mine → FitsCore z work h
+    pub core_fits : (root n : ℕ) (watch : Seat (Option P) (View W Q)) → (length ends < 2 ^ 32) × IsBoard z (length ends) → Watches z work blanks (watch_role Q root n core) watch → (h : CoreSeats W P Q) → h.watch ≡ watch → h.seats.items ≡ mine → BelongsToTable z work h
     core_fits root n watch sized w h is is' = record {
       sized = subst (λ (m : ℕ). (m < 2 ^ 32) × IsBoard z m) (sym (ap (λ (l : List (EndSeats W P Q)). length l) is' ∙ (cut.mine_long ∙ waits.long))) sized;
       watches = subst (λ (s : Seat (Option P) (View W Q)). Watches z work s.me.0.blanks s.me.0.role s × (is_watch s.me.0.role ≡ true)) (sym is) (rewatches z work blanks (watch_role Q root n core) watch w, ap (λ m. is_watch m.0.role) w.me ∙ (watch_says Q root n core).3);
@@ -220,11 +220,11 @@ module _ {W P Q : Type 0} (z : TableId) (work : W) (blanks : List Q) where
     core_is root n watch w h is is' = let says = watch_says Q root n core in let bs : h.watch.me.0.blanks ≡ blanks = ap (λ (s : Seat (Option P) (View W Q)). s.me.0.blanks) is ∙ ap (λ m. m.0.blanks) w.me in
         let role : h.watch.me.0.role ≡ watch_role Q root n core = ap (λ (s : Seat (Option P) (View W Q)). s.me.0.role) is ∙ ap (λ m. m.0.role) w.me in
         let es = ap (λ (l : List (EndSeats W P Q)). map pair_ends (map both_of l)) is' ∙ cut_ends in
-        let a = ap root_of role ∙ says.0 in let b = ap stored_of role ∙ says.1 in let c = ap stops_of role ∙ says.2 in
+        let a = ap is_keeper role ∙ says.0 in let b = ap stored_of role ∙ says.1 in let c = ap stops_of role ∙ says.2 in
         λ i. let r : PortState W Q = record { board = Some z; work = work; blanks = bs i; ends = es i; tells = false; root = a i; stored = b i; stops = c i } in r
 
-  pub fit_more : (l : List (CoreSeats W P Q)) (h : CoreSeats W P Q) → AllFit z work l → FitsCore z work h → AllFit z work (l ++ h ∷ [])
-  fit_more l h all fits c g e = ⊎_elim (λ (t : (c ≡ length l) × (h ≡ g)). subst (λ (q : CoreSeats W P Q). FitsCore z work q) t.1 fits) (λ t. all c g t) (snoc_cases l h g c e)
+  pub fit_more : (l : List (CoreSeats W P Q)) (h : CoreSeats W P Q) → BelongToTable z work l → BelongsToTable z work h → BelongToTable z work (l ++ h ∷ [])
+  fit_more l h all fits c g e = ⊎_elim (λ (t : (c ≡ length l) × (h ≡ g)). subst (λ (q : CoreSeats W P Q). BelongsToTable z work q) t.1 fits) (λ t. all c g t) (snoc_cases l h g c e)
 
 -- ---- the mailboxes below k are cut, and the others are not
 

@@ -10,14 +10,14 @@ use Rattle.copy_slots.specs.declared.view.Role.TheVariants.{Idle, Keeper, Mailbo
 use Rattle.copy_slots.specs.declared.view.View.{View}
 use Rattle.slot_board.specs.declared.seats.EndSeats.{EndSeats}
 use Rattle.copy_slots.specs.Mail.{role_checked, role_stopped}
-use Rattle.copy_slots.specs.SeatEnds.{Sits}
-use Rattle.copy_slots.specs.Ports.{Ends, PortState, parent_at, child_at, on_sender, on_taker, on_parent, on_child, IsParent, IsChild, sender_in, taker_in, root_of, stop_word, after_check, after_stop}
+use Rattle.copy_slots.specs.SeatEnds.{HasEnds}
+use Rattle.copy_slots.specs.Ports.{MailboxEnds, PortState, parent_at, child_at, on_sender, on_taker, on_parent, on_child, IsParent, IsChild, sender_in, taker_in, is_keeper, stop_word, after_check, after_stop}
 use Rattle.slot_board.specs.Slots.{PairSits, AllPairs, sender_of, taker_of, pair_ends, slot_state, is_watch}
 use Rattle.copy_slots.proofs.SeatEndLemmas.{role_is}
 use Rattle.copy_slots.proofs.Seating.{set_cases}
 
-module _ {A B Q : Type 0} (f : A → B) (h : B → Ends Q) where
-  abbrev pub all_ends : List A → List (Ends Q)
+module _ {A B Q : Type 0} (f : A → B) (h : B → MailboxEnds Q) where
+  abbrev pub all_ends : List A → List (MailboxEnds Q)
   all_ends l = map h (map f l)
 
   pub parent_inside : (l : List A) (k : ℕ) (p : PacketAt) → IsParent (parent_at (all_ends l) k) p → k < length l
@@ -62,36 +62,36 @@ module _ {W P Q : Type 0} (z : TableId) (work : W) (blanks : List Q) where
   some_seat : (s t : Seat (Option P) (View W Q)) → Some s ≡ Some t → s ≡ t
   some_seat s t e = cc
 
-  pub parent_repaired : (k : ℕ) (a : EndSeats W P Q) (t : Seat (Option P) (View W Q)) (x : Sender Q) → PairSits z work blanks k a.parent a.child → Sits z work blanks k (Some x) None t → PairSits z work blanks k (Some t) a.child
+  pub parent_repaired : (k : ℕ) (a : EndSeats W P Q) (t : Seat (Option P) (View W Q)) (x : Sender Q) → PairSits z work blanks k a.parent a.child → HasEnds z work blanks k (Some x) None t → PairSits z work blanks k (Some t) a.child
   parent_repaired k a t x old h = record {
-    of_parent = λ s e. subst (λ (q : Seat (Option P) (View W Q)). Sits z work blanks k (Some (sender_in q.me.0.role)) None q) (some_seat t s e)
-        (subst (λ (q : Sender Q). Sits z work blanks k (Some q) None t) (sym (ap sender_in (role_is z work blanks k (Some x) None t h))) h);
+    of_parent = λ s e. subst (λ (q : Seat (Option P) (View W Q)). HasEnds z work blanks k (Some (sender_in q.me.0.role)) None q) (some_seat t s e)
+        (subst (λ (q : Sender Q). HasEnds z work blanks k (Some q) None t) (sym (ap sender_in (role_is z work blanks k (Some x) None t h))) h);
     of_child = old.of_child;
   }
 
-  pub child_repaired : (k : ℕ) (a : EndSeats W P Q) (t : Seat (Option P) (View W Q)) (y : Taker Q) → PairSits z work blanks k a.parent a.child → Sits z work blanks k None (Some y) t → PairSits z work blanks k a.parent (Some t)
+  pub child_repaired : (k : ℕ) (a : EndSeats W P Q) (t : Seat (Option P) (View W Q)) (y : Taker Q) → PairSits z work blanks k a.parent a.child → HasEnds z work blanks k None (Some y) t → PairSits z work blanks k a.parent (Some t)
   child_repaired k a t y old h = record {
     of_parent = old.of_parent;
-    of_child = λ s e. subst (λ (q : Seat (Option P) (View W Q)). Sits z work blanks k None (Some (taker_in q.me.0.role)) q) (some_seat t s e)
-        (subst (λ (q : Taker Q). Sits z work blanks k None (Some q) t) (sym (ap taker_in (role_is z work blanks k None (Some y) t h))) h);
+    of_child = λ s e. subst (λ (q : Seat (Option P) (View W Q)). HasEnds z work blanks k None (Some (taker_in q.me.0.role)) q) (some_seat t s e)
+        (subst (λ (q : Taker Q). HasEnds z work blanks k None (Some q) t) (sym (ap taker_in (role_is z work blanks k None (Some y) t h))) h);
   }
 
 module _ {W P Q : Type 0} (work : W) (blanks : List Q) (watch : Role Q) where
   abbrev pub state_of : TableId → List (EndSeats W P Q) → PortState W Q
   state_of z l = slot_state z work blanks (map both_of l) watch
 
-  pub parent_state : (z : TableId) (l : List (EndSeats W P Q)) (k : ℕ) (a : EndSeats W P Q) (s t : Seat (Option P) (View W Q)) (g : Sender Q → Sender Q) → slice_get l k ≡ Some a → a.parent ≡ Some s → Sits z work blanks k (Some (g (sender_in s.me.0.role))) None t
+  pub parent_state : (z : TableId) (l : List (EndSeats W P Q)) (k : ℕ) (a : EndSeats W P Q) (s t : Seat (Option P) (View W Q)) (g : Sender Q → Sender Q) → slice_get l k ≡ Some a → a.parent ≡ Some s → HasEnds z work blanks k (Some (g (sender_in s.me.0.role))) None t
       → state_of z (set l k (record { parent = Some t; child = a.child })) ≡ record (state_of z l) { ends = on_parent (all_ends both_of pair_ends l) k g }
   parent_state z l k a s t g e is h = let b : EndSeats W P Q = record { parent = Some t; child = a.child } in
-      ap (λ (es : List (Ends Q)). let st : PortState W Q = record (state_of z l) { ends = es } in st)
-      (parent_moved both_of pair_ends l k a b g e (ap (λ (o : Option (Sender Q)). let st : Ends Q = record { parent = o; child = taker_of a.child } in st)
+      ap (λ (es : List (MailboxEnds Q)). let st : PortState W Q = record (state_of z l) { ends = es } in st)
+      (parent_moved both_of pair_ends l k a b g e (ap (λ (o : Option (Sender Q)). let st : MailboxEnds Q = record { parent = o; child = taker_of a.child } in st)
       (ap (λ (r : Role Q). Some (sender_in r)) (role_is z work blanks k _ None t h) ∙ ap (λ (o : Option (Seat (Option P) (View W Q))). on_sender g (sender_of o)) (sym is))))
 
-  pub child_state : (z : TableId) (l : List (EndSeats W P Q)) (k : ℕ) (a : EndSeats W P Q) (s t : Seat (Option P) (View W Q)) (g : Taker Q → Taker Q) → slice_get l k ≡ Some a → a.child ≡ Some s → Sits z work blanks k None (Some (g (taker_in s.me.0.role))) t
+  pub child_state : (z : TableId) (l : List (EndSeats W P Q)) (k : ℕ) (a : EndSeats W P Q) (s t : Seat (Option P) (View W Q)) (g : Taker Q → Taker Q) → slice_get l k ≡ Some a → a.child ≡ Some s → HasEnds z work blanks k None (Some (g (taker_in s.me.0.role))) t
       → state_of z (set l k (record { parent = a.parent; child = Some t })) ≡ record (state_of z l) { ends = on_child (all_ends both_of pair_ends l) k g }
   child_state z l k a s t g e is h = let b : EndSeats W P Q = record { parent = a.parent; child = Some t } in
-      ap (λ (es : List (Ends Q)). let st : PortState W Q = record (state_of z l) { ends = es } in st)
-      (child_moved both_of pair_ends l k a b g e (ap (λ (o : Option (Taker Q)). let st : Ends Q = record { parent = sender_of a.parent; child = o } in st)
+      ap (λ (es : List (MailboxEnds Q)). let st : PortState W Q = record (state_of z l) { ends = es } in st)
+      (child_moved both_of pair_ends l k a b g e (ap (λ (o : Option (Taker Q)). let st : MailboxEnds Q = record { parent = sender_of a.parent; child = o } in st)
       (ap (λ (r : Role Q). Some (taker_in r)) (role_is z work blanks k None _ t h) ∙ ap (λ (o : Option (Seat (Option P) (View W Q))). on_taker g (taker_of o)) (sym is))))
 
 module _ {W P Q : Type 0} (z : TableId) (work : W) (blanks : List Q) (l : List (EndSeats W P Q)) where
@@ -110,12 +110,12 @@ module _ {W P Q : Type 0} (z : TableId) (work : W) (blanks : List Q) (l : List (
   checked_state w (Keeper from st ws) e = refl
   checked_state w (Mailbox k p c) e = absurd (cc)
 
-  pub stopped_state : (role : Role Q) → root_of role ≡ true → slot_state z work blanks (map both_of l) (role_stopped role) ≡ after_stop (slot_state z work blanks (map both_of l) role)
+  pub stopped_state : (role : Role Q) → is_keeper role ≡ true → slot_state z work blanks (map both_of l) (role_stopped role) ≡ after_stop (slot_state z work blanks (map both_of l) role)
   stopped_state (Idle ws) e = absurd (cc)
   stopped_state (Keeper from st ws) e = refl
   stopped_state (Mailbox k p c) e = absurd (cc)
 
-pub root_kept : {Q : Type 0} (role : Role Q) → root_of role ≡ true → (from : ℕ) × (st : Bool) × (ws : List ℕ) × (role ≡ Keeper from st ws)
+pub root_kept : {Q : Type 0} (role : Role Q) → is_keeper role ≡ true → (from : ℕ) × (st : Bool) × (ws : List ℕ) × (role ≡ Keeper from st ws)
 root_kept (Idle ws) e = absurd (cc)
 root_kept (Keeper from st ws) e = (from, st, ws, refl)
 root_kept (Mailbox k p c) e = absurd (cc)

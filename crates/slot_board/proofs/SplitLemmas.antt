@@ -11,11 +11,11 @@ use Rattle.copy_slots.specs.declared.view.Taker.{Taker}
 use Rattle.copy_slots.specs.declared.view.Role.{Role}
 use Rattle.copy_slots.specs.declared.view.Role.TheVariants.{Idle, Keeper, Mailbox}
 use Rattle.copy_slots.specs.declared.view.View.{View}
-use Rattle.copy_slots.specs.Mail.{Mail, End, parent_of, child_of, root, owner_of, KnowsParent, KnowsChild, Knows, Has, IsEnd, spent, Seated, Kept}
+use Rattle.copy_slots.specs.Mail.{MailboxState, End, parent_of, child_of, root, owner_of, KnowsParent, KnowsChild, KnowsRole, Has, IsEnd, spent, IsSeatView, MailInvariant}
 use Rattle.copy_slots.proofs.MailLemmas.{put, put_here, put_else, knows, below}
 use Rattle.copy_slots.proofs.Dealing.{resplit}
 use Rattle.slot_board.specs.Slots.{is_watch}
-use Rattle.slot_board.specs.Splits.{parent_alone, child_alone, role_joined, parent_part, child_part, idle, joined}
+use Rattle.slot_board.specs.Splits.{parent_alone, child_alone, role_joined, parent_part, child_part, idle, joined_view}
 
 abbrev chosen : {A : Type 0} {X : Type 0} → Dec X → A → A → A
 chosen (yes _) a b = a
@@ -49,21 +49,21 @@ module _ {W P Q : Type 0} (plain : P → Q) (asks : W → ℕ → List Q → Typ
   St = State (Option P) (View W Q)
 
   abbrev Rule : St → Type 0
-  Rule = Kept plain asks answers work blanks
+  Rule = MailInvariant plain asks answers work blanks
 
-  abbrev Known : (ℕ → Mail Q) → (End → ℕ) → Bool → ℕ → View W Q → Type 0
-  Known mail owner stored j v = (v.work ≡ Some work) × (v.blanks ≡ blanks) × Knows (length blanks) mail owner stored j v.role
+  abbrev Known : (ℕ → MailboxState Q) → (End → ℕ) → Bool → ℕ → View W Q → Type 0
+  Known mail owner stored j v = (v.work ≡ Some work) × (v.blanks ≡ blanks) × KnowsRole (length blanks) mail owner stored j v.role
 
   -- the child's end of a mailbox
   pub parts : (id : ℕ) (v : View W Q) (k : ℕ) (x : Sender Q) (y : Taker Q) → v.role ≡ Mailbox k (Some x) (Some y) → Splits Rule id v (parent_part v) (child_part v)
   parts id v k x y is s r at = resplit plain asks answers work blanks s r id v (parent_part v) (child_part v) r.parent (put r.child k new) at
-      (inr (h.0, h.1, subst (λ (z : Role Q). Knows (length blanks) r.mail own r.stored id (parent_alone z)) (sym is) (h.2.0, h.2.1, tt)))
-      (inr (h.0, h.1, subst (λ (z : Role Q). Knows (length blanks) r.mail own r.stored new (child_alone z)) (sym is) (h.2.0, tt, (put_here r.child k new, h.2.2.1))))
+      (inr (h.0, h.1, subst (λ (z : Role Q). KnowsRole (length blanks) r.mail own r.stored id (parent_alone z)) (sym is) (h.2.0, h.2.1, tt)))
+      (inr (h.0, h.1, subst (λ (z : Role Q). KnowsRole (length blanks) r.mail own r.stored new (child_alone z)) (sym is) (h.2.0, tt, (put_here r.child k new, h.2.2.1))))
       (λ j u other. ⊎_elim (λ (g : u ≡ spent). inl g)
-      (λ (t : (u.work ≡ Some work) × (u.blanks ≡ blanks) × Knows (length blanks) r.mail (owner_of r.parent r.child r.keeper) r.stored j u.role). inr (t.0, t.1, same j other u.role t.2)))
+      (λ (t : (u.work ≡ Some work) × (u.blanks ≡ blanks) × KnowsRole (length blanks) r.mail (owner_of r.parent r.child r.keeper) r.stored j u.role). inr (t.0, t.1, same j other u.role t.2)))
       ends
     where
-      h : (v.work ≡ Some work) × (v.blanks ≡ blanks) × Knows (length blanks) r.mail (owner_of r.parent r.child r.keeper) r.stored id (Mailbox k (Some x) (Some y))
+      h : (v.work ≡ Some work) × (v.blanks ≡ blanks) × KnowsRole (length blanks) r.mail (owner_of r.parent r.child r.keeper) r.stored id (Mailbox k (Some x) (Some y))
       h = knows plain asks answers work blanks s r id v (Mailbox k (Some x) (Some y)) at is tt
 
       new : ℕ
@@ -72,7 +72,7 @@ module _ {W P Q : Type 0} (plain : P → Q) (asks : W → ℕ → List Q → Typ
       own : End → ℕ
       own = owner_of r.parent (put r.child k new) r.keeper
 
-      same : (j : ℕ) → j ≢ id → (role : Role Q) → Knows (length blanks) r.mail (owner_of r.parent r.child r.keeper) r.stored j role → Knows (length blanks) r.mail own r.stored j role
+      same : (j : ℕ) → j ≢ id → (role : Role Q) → KnowsRole (length blanks) r.mail (owner_of r.parent r.child r.keeper) r.stored j role → KnowsRole (length blanks) r.mail own r.stored j role
       same j other (Idle us) t = tt
       same j other (Keeper f z us) t = (t.0, t.1, λ i low high. let q = t.2 i low high in (q.0, put_else r.child k new i (λ e. other (sym q.1 ∙ (ap r.child e ∙ h.2.2.0))) ∙ q.1, q.2))
       same j other (Mailbox i p c) t = (t.0, parents p t.1, children c t.2)
@@ -101,7 +101,7 @@ module _ {W P Q : Type 0} (plain : P → Q) (asks : W → ℕ → List Q → Typ
       resplit plain asks answers work blanks s r id v v (idle v) r.parent r.child at (inr h) (inr (h.0, h.1, tt)) (λ j u other t. t) (λ e l. inl (refl, λ q. q))
 
   -- two seats that look at the stop word
-  pub merges : (id : ℕ) (v : View W Q) (other : ℕ) (w : View W Q) → v ≢ spent → w ≢ spent → is_watch v.role ≡ true → is_watch w.role ≡ true → Joins Rule id v other w (joined v w) spent
+  pub merges : (id : ℕ) (v : View W Q) (other : ℕ) (w : View W Q) → v ≢ spent → w ≢ spent → is_watch v.role ≡ true → is_watch w.role ≡ true → Joins Rule id v other w (joined_view v w) spent
   merges id v other w live more_live watch more s r at apart there = record {
     mail = r.mail;
     parent = λ k. move (r.parent k);
@@ -115,7 +115,7 @@ module _ {W P Q : Type 0} (plain : P → Q) (asks : W → ℕ → List Q → Typ
     each_view = λ j u e. ⊎_elim
         (λ (t : (j ≡ other) × (spent ≡ u)). inl (sym t.1))
         (λ (t : (j ≢ other) × (get_elem? (set s.views id both) j ≡ some u)). ⊎_elim
-        (λ (q : (j ≡ id) × (both ≡ u)). subst (λ (z : ℕ × View W Q). Seated plain asks answers work blanks r.mail now r.stored z.0 z.1) (λ i. (sym q.0 i, q.1 i)) (inr (kv.0, kv.1, into v.role w.role watch more kv.2 kw.2)))
+        (λ (q : (j ≡ id) × (both ≡ u)). subst (λ (z : ℕ × View W Q). IsSeatView plain asks answers work blanks r.mail now r.stored z.0 z.1) (λ i. (sym q.0 i, q.1 i)) (inr (kv.0, kv.1, into v.role w.role watch more kv.2 kw.2)))
         (λ (q : (j ≢ id) × (get_elem? s.views j ≡ some u)). ⊎_elim (λ (g : u ≡ spent). inl g) (λ (h : Known r.mail was r.stored j u). inr (h.0, h.1, keep j t.0 u.role h.2)) (r.each_view j u q.1))
         (at_set s.views id j both u t.1))
         (at_set (set s.views id both) other j spent u e);
@@ -128,7 +128,7 @@ module _ {W P Q : Type 0} (plain : P → Q) (asks : W → ℕ → List Q → Typ
   }
     where
       both : View W Q
-      both = joined v w
+      both = joined_view v w
 
       views : List (View W Q)
       views = set (set s.views id both) other spent
@@ -162,7 +162,7 @@ module _ {W P Q : Type 0} (plain : P → Q) (asks : W → ℕ → List Q → Typ
       mine : (i j : ℕ) → j ≢ other → i ≡ j → move i ≡ j
       mine i j n e = moved_else other id i (λ f. n (sym e ∙ f)) ∙ e
 
-      keep : (j : ℕ) → j ≢ other → (role : Role Q) → Knows (length blanks) r.mail was r.stored j role → Knows (length blanks) r.mail now r.stored j role
+      keep : (j : ℕ) → j ≢ other → (role : Role Q) → KnowsRole (length blanks) r.mail was r.stored j role → KnowsRole (length blanks) r.mail now r.stored j role
       keep j n (Idle us) t = tt
       keep j n (Keeper f z us) t = (mine r.keeper j n t.0, t.1, λ i low high. let q = t.2 i low high in (mine (r.parent i) j n q.0, mine (r.child i) j n q.1, q.2))
       keep j n (Mailbox i p c) t = (t.0, parents p t.1, children c t.2)
@@ -175,7 +175,7 @@ module _ {W P Q : Type 0} (plain : P → Q) (asks : W → ℕ → List Q → Typ
           children None q = tt
           children (Some x) q = (mine (r.child i) j n q.0, q.1)
 
-      into : (a b : Role Q) → is_watch a ≡ true → is_watch b ≡ true → Knows (length blanks) r.mail was r.stored id a → Knows (length blanks) r.mail was r.stored other b → Knows (length blanks) r.mail now r.stored id (role_joined a b)
+      into : (a b : Role Q) → is_watch a ≡ true → is_watch b ≡ true → KnowsRole (length blanks) r.mail was r.stored id a → KnowsRole (length blanks) r.mail was r.stored other b → KnowsRole (length blanks) r.mail now r.stored id (role_joined a b)
       into (Idle ws) (Idle us) _ _ ha hb = tt
       into (Idle ws) (Keeper f z us) _ _ ha hb = (moved_here other id r.keeper hb.0, hb.1, λ i low high. let q = hb.2 i low high in (moved_here other id (r.parent i) q.0, moved_here other id (r.child i) q.1, q.2))
       into (Idle ws) (Mailbox k p c) _ e ha hb = not_watch e
@@ -195,7 +195,7 @@ module _ {W P Q : Type 0} (plain : P → Q) (asks : W → ℕ → List Q → Typ
       has_left (Keeper f z ws) (Mailbox k p c) _ e h = h
       has_left (Mailbox k p c) b w e h = not_watch w
 
-      has_right : (a b : Role Q) → is_watch a ≡ true → is_watch b ≡ true → Knows (length blanks) r.mail was r.stored id a → Knows (length blanks) r.mail was r.stored other b → (e : End) → Has b e → Has (role_joined a b) e
+      has_right : (a b : Role Q) → is_watch a ≡ true → is_watch b ≡ true → KnowsRole (length blanks) r.mail was r.stored id a → KnowsRole (length blanks) r.mail was r.stored other b → (e : End) → Has b e → Has (role_joined a b) e
       has_right a (Idle us) _ _ ha hb e h = absurd h
       has_right a (Mailbox k p c) _ w ha hb e h = not_watch w
       has_right (Idle ws) (Keeper f z us) _ _ ha hb (parent_of k) h = h

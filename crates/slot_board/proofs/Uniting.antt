@@ -9,7 +9,7 @@ use Rattle.copy_slots.specs.declared.view.Role.{Role}
 use Rattle.copy_slots.specs.declared.view.Role.TheVariants.{Idle, Keeper, Mailbox}
 use Rattle.copy_slots.specs.declared.view.View.{View}
 use Rattle.copy_slots.specs.SeatEnds.{IsBoard}
-use Rattle.copy_slots.specs.Ports.{Ends, PortState, root_of, stored_of, stops_of}
+use Rattle.copy_slots.specs.Ports.{MailboxEnds, PortState, is_keeper, stored_of, stops_of}
 use Rattle.slot_board.specs.declared.seats.EndSeats.{EndSeats}
 use Rattle.slot_board.specs.Slots.{PairSits, AllPairs, sender_of, taker_of, pair_ends, slot_state, is_watch}
 use Rattle.slot_board.specs.Splits.{pick, role_joined}
@@ -33,7 +33,7 @@ not_watch e = absurd (cc)
 
 module _ {Q : Type 0} where
   abbrev JoinSays : Role Q → Role Q → Type 0
-  JoinSays a b = (root_of (role_joined a b) ≡ pick (root_of a) true (root_of b)) × (stored_of (role_joined a b) ≡ pick (root_of a) (stored_of a) (stored_of b)) × (stops_of (role_joined a b) ≡ stops_of a ++ stops_of b) × (is_watch (role_joined a b) ≡ true)
+  JoinSays a b = (is_keeper (role_joined a b) ≡ pick (is_keeper a) true (is_keeper b)) × (stored_of (role_joined a b) ≡ pick (is_keeper a) (stored_of a) (stored_of b)) × (stops_of (role_joined a b) ≡ stops_of a ++ stops_of b) × (is_watch (role_joined a b) ≡ true)
 
   pub join_says : (a b : Role Q) → is_watch a ≡ true → is_watch b ≡ true → JoinSays a b
   join_says (Idle ws) (Idle us) e f = (refl, refl, refl, refl)
@@ -92,7 +92,7 @@ module _ {W P Q : Type 0} where
         of_child = λ t f. ⊎_elim (λ p. l.of_child t p) (λ p. r.of_child t p) (from_either a.0.child b.0.child t f);
       }
 
-  abbrev ends_in : List (EndSeats W P Q) → List (Ends Q)
+  abbrev ends_in : List (EndSeats W P Q) → List (MailboxEnds Q)
   ends_in l = map pair_ends (map both_of l)
 
   pub ends_joined : (mine theirs now : List (EndSeats W P Q)) → length mine ≡ length theirs → AreJoined mine theirs now → ends_in now ≡ joined_ends (ends_in mine) (ends_in theirs)
@@ -104,10 +104,10 @@ module _ {W P Q : Type 0} where
   ends_joined (a ∷ ms) (b ∷ ts) (c ∷ cs) same h = let first : c ≡ both_seats a b = some_is c (both_seats a b) (h.at 0 a b refl refl) in let n = h.long in
       let rest = ends_joined ms ts cs (omega arith) (record { long = omega arith; at = λ k d e p q. h.at (suc k) d e p q }) in
       ap (λ (q : EndSeats W P Q). pair_ends (both_of q) ∷ ends_in cs) first
-      ∙ (λ i. (let r : Ends Q = record { parent = sender_either a.parent b.parent i; child = taker_either a.child b.child i } in r) ∷ rest i)
+      ∙ (λ i. (let r : MailboxEnds Q = record { parent = sender_either a.parent b.parent i; child = taker_either a.child b.child i } in r) ∷ rest i)
 
   pub state_joined : (z y : TableId) (work v : W) (blanks bs more : List Q) (mine theirs now : List (EndSeats W P Q)) (a b r : Role Q) → is_watch a ≡ true → is_watch b ≡ true → length mine ≡ length theirs → AreJoined mine theirs now → bs ≡ blanks → r ≡ role_joined a b
       → slot_state z work bs (map both_of now) r ≡ joined_state (slot_state z work blanks (map both_of mine) a) (slot_state y v more (map both_of theirs) b)
   state_joined z y work v blanks bs more mine theirs now a b r wa wb same h is role = let says = join_says a b wa wb in let ends = ends_joined mine theirs now same h in
-      let x = ap root_of role ∙ says.0 in let s = ap stored_of role ∙ says.1 in let t = ap stops_of role ∙ says.2 in
+      let x = ap is_keeper role ∙ says.0 in let s = ap stored_of role ∙ says.1 in let t = ap stops_of role ∙ says.2 in
       λ i. let q : PortState W Q = record { board = Some z; work = work; blanks = is i; ends = ends i; tells = false; root = x i; stored = s i; stops = t i } in q

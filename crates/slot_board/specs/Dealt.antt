@@ -8,8 +8,8 @@ use Rattle.copy_slots.specs.declared.view.Role.{Role}
 use Rattle.copy_slots.specs.declared.view.Role.TheVariants.{Idle, Keeper}
 use Rattle.copy_slots.specs.declared.view.View.{View}
 use Rattle.copy_slots.specs.Mail.{new_sender, new_taker}
-use Rattle.copy_slots.specs.SeatEnds.{IsBoard, Sits, Watches}
-use Rattle.copy_slots.specs.Ports.{Ends, PortState}
+use Rattle.copy_slots.specs.SeatEnds.{IsBoard, HasEnds, Watches}
+use Rattle.copy_slots.specs.Ports.{MailboxEnds, PortState}
 use Rattle.slot_board.specs.declared.seats.EndSeats.{EndSeats}
 use Rattle.slot_board.specs.declared.seats.CoreSeats.{CoreSeats}
 use Rattle.slot_board.specs.Slots.{AllPairs, IsWatchSeat, sender_of, taker_of, port_state}
@@ -18,7 +18,7 @@ use Rattle.slot_board.specs.Splits.{pick}
 -- ---- what each core gets
 
 -- of a mailbox between these two cores, the ends that this core has, before their first call
-abbrev pub ends_of_core : {Q : Type 0} → ℕ → ℕ × ℕ → Ends Q
+abbrev pub ends_of_core : {Q : Type 0} → ℕ → ℕ × ℕ → MailboxEnds Q
 ends_of_core core e = record { parent = pick (e.0 == core) (Some new_sender) None; child = pick (e.1 == core) (Some new_taker) None }
 
 module _ {W Q : Type 0} (z : TableId) (work : W) (blanks : List Q) (ends : List (ℕ × ℕ)) (root : ℕ) where
@@ -35,12 +35,12 @@ module _ {W Q : Type 0} (z : TableId) (work : W) (blanks : List Q) (ends : List 
 
 module _ {W P Q : Type 0} where
   -- both ends of mailbox k, each in a seat of its own, with nothing done
-  pub record IsNew (z : TableId) (work : W) (blanks : List Q) (k : ℕ) (p c : Option (Seat (Option P) (View W Q))) : Type 0 where
-    pub parent : (s : Seat (Option P) (View W Q)) × (p ≡ Some s) × Sits z work blanks k (Some new_sender) None s
-    pub child : (s : Seat (Option P) (View W Q)) × (c ≡ Some s) × Sits z work blanks k None (Some new_taker) s
+  pub record AreNewEnds (z : TableId) (work : W) (blanks : List Q) (k : ℕ) (p c : Option (Seat (Option P) (View W Q))) : Type 0 where
+    pub parent : (s : Seat (Option P) (View W Q)) × (p ≡ Some s) × HasEnds z work blanks k (Some new_sender) None s
+    pub child : (s : Seat (Option P) (View W Q)) × (c ≡ Some s) × HasEnds z work blanks k None (Some new_taker) s
 
   abbrev pub AllNew : TableId → W → List Q → List (EndSeats W P Q) → Type 0
-  AllNew z work blanks l = (j : ℕ) (s : EndSeats W P Q) → slice_get l j ≡ Some s → IsNew z work blanks j s.parent s.child
+  AllNew z work blanks l = (j : ℕ) (s : EndSeats W P Q) → slice_get l j ≡ Some s → AreNewEnds z work blanks j s.parent s.child
 
   -- of a mailbox between these two cores, what this core takes and what it leaves
   abbrev pub taken_by_core : ℕ → ℕ × ℕ → EndSeats W P Q → EndSeats W P Q
@@ -56,20 +56,20 @@ module _ {W P Q : Type 0} where
     pub rest_at : (k : ℕ) (e : ℕ × ℕ) (p : EndSeats W P Q) → slice_get ends k ≡ Some e → slice_get old k ≡ Some p → slice_get rest k ≡ Some (left_by_core core e p)
 
   -- the seats of a core belong to the table
-  pub record FitsCore (z : TableId) (work : W) (h : CoreSeats W P Q) : Type 0 where
+  pub record BelongsToTable (z : TableId) (work : W) (h : CoreSeats W P Q) : Type 0 where
     pub sized : (length h.seats.items < 2 ^ 32) × IsBoard z (length h.seats.items)
     pub watches : IsWatchSeat z work h.watch
     pub pairs : AllPairs z work h.watch.me.0.blanks h.seats.items
 
-  abbrev pub AllFit : TableId → W → List (CoreSeats W P Q) → Type 0
-  AllFit z work l = (c : ℕ) (h : CoreSeats W P Q) → slice_get l c ≡ Some h → FitsCore z work h
+  abbrev pub BelongToTable : TableId → W → List (CoreSeats W P Q) → Type 0
+  BelongToTable z work l = (c : ℕ) (h : CoreSeats W P Q) → slice_get l c ≡ Some h → BelongsToTable z work h
 
   -- the port that these seats make
   abbrev pub seats_state : TableId → W → CoreSeats W P Q → PortState W Q
   seats_state z work h = port_state z work h.watch h.seats.items
 
   -- what is left for the cores from this one on
-  pub record Waits (z : TableId) (work : W) (blanks : List Q) (core : ℕ) (ends : List (ℕ × ℕ)) (all : List (EndSeats W P Q)) : Type 0 where
+  pub record IsLeftToDeal (z : TableId) (work : W) (blanks : List Q) (core : ℕ) (ends : List (ℕ × ℕ)) (all : List (EndSeats W P Q)) : Type 0 where
     pub long : length all ≡ length ends
     pub sits : AllPairs z work blanks all
     pub parent : (k : ℕ) (e : ℕ × ℕ) (p : EndSeats W P Q) → slice_get ends k ≡ Some e → slice_get all k ≡ Some p → core ≤ e.0 → sender_of p.parent ≡ Some new_sender
@@ -83,9 +83,9 @@ spare_role root n (suc core) = pick (core == root) (Idle []) (spare_role root n 
 module _ {W P Q M : Type 0} (top : Shared (Option P) (View W Q) (Setup W P Q) M) where
   -- no core has its seats yet: the root's mark is in one seat, and both ends of each mailbox in others
   abbrev pub CanDealCores : List (ℕ × ℕ) → Seat (Option P) (View W Q) → List (EndSeats W P Q) → Type 0
-  CanDealCores ends spare all = (bs : List Q) × Watches top.table_id top.key.work.value bs (Keeper (length ends) false []) spare × Waits top.table_id top.key.work.value bs 0 ends all
+  CanDealCores ends spare all = (bs : List Q) × Watches top.table_id top.key.work.value bs (Keeper (length ends) false []) spare × IsLeftToDeal top.table_id top.key.work.value bs 0 ends all
 
   -- these are the seats of the cores, and make their ports
   abbrev pub DealsCores : List (ℕ × ℕ) → ℕ → ℕ → Seat (Option P) (View W Q) → List (EndSeats W P Q) → List (CoreSeats W P Q) → Type 0
-  DealsCores ends root cores spare all hands = (bs : List Q) → Watches top.table_id top.key.work.value bs (Keeper (length ends) false []) spare → Waits top.table_id top.key.work.value bs 0 ends all
-      → AllFit top.table_id top.key.work.value hands × (map (seats_state top.table_id top.key.work.value) hands ≡ new_ports top.table_id top.key.work.value bs ends root cores)
+  DealsCores ends root cores spare all hands = (bs : List Q) → Watches top.table_id top.key.work.value bs (Keeper (length ends) false []) spare → IsLeftToDeal top.table_id top.key.work.value bs 0 ends all
+      → BelongToTable top.table_id top.key.work.value hands × (map (seats_state top.table_id top.key.work.value) hands ≡ new_ports top.table_id top.key.work.value bs ends root cores)

@@ -1,6 +1,6 @@
 -- Two ports of one board become one.
 use Rattle.std.specs.Prelude.{◌≡◌, ℕ, List, [], ◌∷◌, ◌++◌, length, slice_get, Option, Some, None, true, false}
-use Rattle.copy_slots.specs.Ports.{Ends, PortState}
+use Rattle.copy_slots.specs.Ports.{MailboxEnds, PortState}
 use Rattle.slot_board.specs.declared.seats.EndSeats.{EndSeats}
 use Rattle.slot_board.specs.Splits.{pick}
 
@@ -12,7 +12,7 @@ abbrev pub or_else : {A : Type 0} → Option A → Option A → Option A
 or_else None o = o
 or_else (Some a) o = Some a
 
-abbrev pub joined_ends : {Q : Type 0} → List (Ends Q) → List (Ends Q) → List (Ends Q)
+abbrev pub joined_ends : {Q : Type 0} → List (MailboxEnds Q) → List (MailboxEnds Q) → List (MailboxEnds Q)
 joined_ends [] fs = []
 joined_ends (e ∷ es) [] = e ∷ es
 joined_ends (e ∷ es) (f ∷ fs) = (record { parent = or_else e.parent f.parent; child = or_else e.child f.child }) ∷ joined_ends es fs

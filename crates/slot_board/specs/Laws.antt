@@ -8,14 +8,14 @@ use Rattle.copy_slots.specs.declared.view.Sender.{Sender}
 use Rattle.copy_slots.specs.declared.view.Taker.{Taker}
 use Rattle.copy_slots.specs.declared.view.Role.TheVariants.{Keeper, Mailbox}
 use Rattle.copy_slots.specs.declared.view.View.{View}
-use Rattle.copy_slots.specs.Mail.{Kept, starting, spent, opened, collected, offered, took, answered, checked, stops, dealt_left, dealt_right}
+use Rattle.copy_slots.specs.Mail.{MailInvariant, starting, spent, opened, collected, offered, took, answered, checked, stops, dealt_left, dealt_right}
 use Rattle.copy_slots.specs.Rule.{Between}
 use Rattle.slot_board.specs.Slots.{is_watch}
-use Rattle.slot_board.specs.Splits.{parent_part, child_part, idle, joined}
+use Rattle.slot_board.specs.Splits.{parent_part, child_part, idle, joined_view}
 
 module _ {W P Q : Type 0} (plain : P → Q) (asks : W → ℕ → List Q → Type 0) (answers : W → ℕ → List Q → Q → Type 0) (work : W) (blanks : List Q) where
   abbrev pub IsRuledState : State (Option P) (View W Q) → Type 0
-  IsRuledState = Kept plain asks answers work blanks
+  IsRuledState = MailInvariant plain asks answers work blanks
 
   -- `slots`: the number of slots. `id`, `me`: the seat, its view and the slots that it has out
   pub record EveryStep : Type 0 where
@@ -44,6 +44,6 @@ module _ {W P Q : Type 0} (plain : P → Q) (asks : W → ℕ → List Q → Typ
     pub part : (id : ℕ) (v : View W Q) (k : ℕ) (x : Sender Q) (y : Taker Q) → v.role ≡ Mailbox k (Some x) (Some y) → Splits IsRuledState id v (parent_part v) (child_part v)
     pub watch : (id : ℕ) (v : View W Q) → v ≢ spent → Splits IsRuledState id v v (idle v)
     -- two seats that look at the stop word are joined, and the second is spent
-    pub join : (id : ℕ) (v : View W Q) (other : ℕ) (w : View W Q) → v ≢ spent → w ≢ spent → is_watch v.role ≡ true → is_watch w.role ≡ true → Joins IsRuledState id v other w (joined v w) spent
+    pub join : (id : ℕ) (v : View W Q) (other : ℕ) (w : View W Q) → v ≢ spent → w ≢ spent → is_watch v.role ≡ true → is_watch w.role ≡ true → Joins IsRuledState id v other w (joined_view v w) spent
     -- between any two steps
     pub between : (s : State (Option P) (View W Q)) → IsRuledState s → Between plain asks answers work blanks s

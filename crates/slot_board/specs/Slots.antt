@@ -7,8 +7,8 @@ use Rattle.copy_slots.specs.declared.view.Taker.{Taker}
 use Rattle.copy_slots.specs.declared.view.Role.{Role}
 use Rattle.copy_slots.specs.declared.view.Role.TheVariants.{Mailbox}
 use Rattle.copy_slots.specs.declared.view.View.{View}
-use Rattle.copy_slots.specs.SeatEnds.{Sits, Watches}
-use Rattle.copy_slots.specs.Ports.{Ends, PortState, sender_in, taker_in, stops_of, stored_of, root_of}
+use Rattle.copy_slots.specs.SeatEnds.{HasEnds, Watches}
+use Rattle.copy_slots.specs.Ports.{MailboxEnds, PortState, sender_in, taker_in, stops_of, stored_of, is_keeper}
 use Rattle.slot_board.specs.declared.seats.EndSeats.{EndSeats}
 
 -- the seat looks at the stop word, and has no end of a mailbox of its own
@@ -19,8 +19,8 @@ is_watch r = true
 module _ {W P Q : Type 0} where
   -- each seat that is there has its end of mailbox k
   pub record PairSits (z : TableId) (work : W) (blanks : List Q) (k : ℕ) (p c : Option (Seat (Option P) (View W Q))) : Type 0 where
-    pub of_parent : (s : Seat (Option P) (View W Q)) → p ≡ Some s → Sits z work blanks k (Some (sender_in s.me.0.role)) None s
-    pub of_child : (s : Seat (Option P) (View W Q)) → c ≡ Some s → Sits z work blanks k None (Some (taker_in s.me.0.role)) s
+    pub of_parent : (s : Seat (Option P) (View W Q)) → p ≡ Some s → HasEnds z work blanks k (Some (sender_in s.me.0.role)) None s
+    pub of_child : (s : Seat (Option P) (View W Q)) → c ≡ Some s → HasEnds z work blanks k None (Some (taker_in s.me.0.role)) s
 
   -- each seat of these that is there has its end of its mailbox
   abbrev pub AllPairs : TableId → W → List Q → List (EndSeats W P Q) → Type 0
@@ -38,12 +38,12 @@ module _ {W P Q : Type 0} where
   taker_of None = None
   taker_of (Some s) = Some (taker_in s.me.0.role)
 
-  abbrev pub pair_ends : Option (Seat (Option P) (View W Q)) × Option (Seat (Option P) (View W Q)) → Ends Q
+  abbrev pub pair_ends : Option (Seat (Option P) (View W Q)) × Option (Seat (Option P) (View W Q)) → MailboxEnds Q
   pair_ends t = record { parent = sender_of t.0; child = taker_of t.1 }
 
   -- the state of a port, by its seats at each mailbox and the role of the one that looks at the stop word
   abbrev pub slot_state : TableId → W → List Q → List (Option (Seat (Option P) (View W Q)) × Option (Seat (Option P) (View W Q))) → Role Q → PortState W Q
-  slot_state z work blanks pairs watch = record { board = Some z; work = work; blanks = blanks; ends = map pair_ends pairs; tells = false; root = root_of watch; stored = stored_of watch; stops = stops_of watch }
+  slot_state z work blanks pairs watch = record { board = Some z; work = work; blanks = blanks; ends = map pair_ends pairs; tells = false; root = is_keeper watch; stored = stored_of watch; stops = stops_of watch }
 
   -- the same, by the seats
   abbrev pub port_state : TableId → W → Seat (Option P) (View W Q) → List (EndSeats W P Q) → PortState W Q

@@ -7,7 +7,7 @@ use Rattle.copy_slots.specs.declared.view.Role.{Role}
 use Rattle.copy_slots.specs.declared.view.Role.TheVariants.{Idle, Keeper, Mailbox}
 use Rattle.copy_slots.specs.declared.view.View.{View}
 use Rattle.copy_slots.specs.Mail.{new_sender, new_taker, posed}
-use Rattle.copy_slots.specs.SeatEnds.{Sits, Watches}
+use Rattle.copy_slots.specs.SeatEnds.{HasEnds, Watches}
 use Rattle.copy_slots.specs.Steps.{IsFreshSeat}
 use Rattle.slot_board.specs.Slots.{is_watch}
 
@@ -42,8 +42,8 @@ module _ {W Q : Type 0} where
   abbrev pub idle : View W Q → View W Q
   idle v = posed v (Idle [])
 
-  abbrev pub joined : View W Q → View W Q → View W Q
-  joined v w = posed v (role_joined v.role w.role)
+  abbrev pub joined_view : View W Q → View W Q → View W Q
+  joined_view v w = posed v (role_joined v.role w.role)
 
 module _ {W P Q M : Type 0} (top : Shared (Option P) (View W Q) (Setup W P Q) M) where
   -- the seat has both ends of a mailbox, and nothing was done there
@@ -53,7 +53,7 @@ module _ {W P Q M : Type 0} (top : Shared (Option P) (View W Q) (Setup W P Q) M)
   -- of such a seat, one keeps the parent's end and another gets the child's
   abbrev pub PartsEnds : Seat (Option P) (View W Q) → Seat (Option P) (View W Q) → Seat (Option P) (View W Q) → Type 0
   PartsEnds old parent child = (bs : List Q) (k : ℕ) → IsFreshSeat top bs k old
-      → Sits top.table_id top.key.work.value bs k (Some new_sender) None parent × Sits top.table_id top.key.work.value bs k None (Some new_taker) child
+      → HasEnds top.table_id top.key.work.value bs k (Some new_sender) None parent × HasEnds top.table_id top.key.work.value bs k None (Some new_taker) child
 
   -- of a seat that looks at the stop word, one is left and another comes of it; for the root's core that gets all
   abbrev pub PartsWatch : Bool → Seat (Option P) (View W Q) → Seat (Option P) (View W Q) → Seat (Option P) (View W Q) → Type 0

@@ -34,9 +34,9 @@ pub struct SlotBoard<W: Work> {
 
 impl<W: Work> GivesPorts<W> for SlotBoard<W> {
     ghost use Rattle.std.specs.Prelude.{map};
-    ghost use Rattle.slot_board.specs.Dealt.{AllFit, seats_state};
+    ghost use Rattle.slot_board.specs.Dealt.{BelongToTable, seats_state};
 
-    ghost is_whole = { λ b. AllFit b.board.shared.table_id b.board.shared.key.work.value b.hands.items };
+    ghost is_whole = { λ b. BelongToTable b.board.shared.table_id b.board.shared.key.work.value b.hands.items };
 
     ghost board = { λ b. b.board.shared.table_id };
 

@@ -2,7 +2,7 @@
 ghost use Rattle.std.specs.Prelude.{◌≡◌, ℕ, ◌+◌, ◌<◌, ◌^◌, length, None, IfOk};
 ghost use Rattle.copy_slots.specs.SeatEnds.{IsBoard};
 ghost use Rattle.copy_slots.specs.Steps.{CanDeal, CanDealAll, HandsOut, HandsOutAll};
-ghost use Rattle.slot_board.specs.Dealt.{AllNew, CanDealCores, DealsCores, IsCut, IsNew, left_by_core, taken_by_core};
+ghost use Rattle.slot_board.specs.Dealt.{AllNew, CanDealCores, DealsCores, IsCut, AreNewEnds, left_by_core, taken_by_core};
 ghost use Rattle.slot_board.specs.Splits.{pick};
 
 use crate::seats::{CoreSeats, EndSeats};
@@ -18,7 +18,7 @@ use std::collections::VecDeque;
 fn deal_mailbox<W: Work>(top: &MailTable<W>, keeper: &mut MailSeat<W>, from: usize) -> EndSeats<W>
     requires board { (n : ℕ) × IsBoard top.now.table_id n }
     requires keeper { CanDeal top.now from keeper.old }
-    ensures { HandsOut top.now from (from + 1) keeper.old keeper.new (λ bs. IsNew top.now.table_id top.now.key.work.value bs from result.parent result.child) }
+    ensures { HandsOut top.now from (from + 1) keeper.old keeper.new (λ bs. AreNewEnds top.now.table_id top.now.key.work.value bs from result.parent result.child) }
 {
     let mut parent = deal_one(top, keeper, from);
     let child = part(top, &mut parent);

@@ -44,9 +44,9 @@ pub struct Merges<W> {
 
 impl<W: Work> Join<View<W, W::Plain>> for Merges<W> {
     ghost use Rattle.copy_slots.specs.Mail.{spent};
-    ghost use Rattle.slot_board.specs.Splits.{joined};
+    ghost use Rattle.slot_board.specs.Splits.{joined_view};
 
-    ghost both = { joined };
+    ghost both = { joined_view };
 
     ghost spent = { spent };
 }

@@ -6,7 +6,7 @@ use Rattle.std.proofs.Math.Nat.{div-add-mod, mul-add-mod_self_left}
 use Rattle.copy_slots.specs.declared.view.PacketAt.{PacketAt}
 use Rattle.copy_slots.specs.declared.view.Sender.{Sender}
 use Rattle.copy_slots.specs.declared.view.Taker.{Taker}
-use Rattle.copy_slots.specs.Ports.{Ends, PortState, child_at, on_parent, on_child, taken_by, on_taker, IsChild, ParentIs, ChildIs}
+use Rattle.copy_slots.specs.Ports.{MailboxEnds, PortState, child_at, on_parent, on_child, taken_by, on_taker, IsChild, ParentIs, ChildIs}
 use Rattle.copy_slots.proofs.PortLemmas.{parent_moves, child_moves, child_here}
 use Rattle.slot_board.specs.Joined.{IsOneBoard}
 
@@ -18,10 +18,10 @@ module _ {W Q : Type 0} where
   one_board_then s t u a b = (a.0 ∙ b.0, a.1 ∙ b.1, a.2 ∙ b.2)
 
   -- only the ends change
-  pub same_board : (s t : PortState W Q) (es : List (Ends Q)) → t ≡ (record s { ends = es }) → IsOneBoard s t
+  pub same_board : (s t : PortState W Q) (es : List (MailboxEnds Q)) → t ≡ (record s { ends = es }) → IsOneBoard s t
   same_board s t es e = (sym (ap (λ (r : PortState W Q). r.board) e), sym (ap (λ (r : PortState W Q). r.work) e), sym (ap (λ (r : PortState W Q). r.blanks) e))
 
-  pub root_kept : (s t : PortState W Q) (es : List (Ends Q)) → t ≡ (record s { ends = es }) → t.root ≡ s.root
+  pub root_kept : (s t : PortState W Q) (es : List (MailboxEnds Q)) → t ≡ (record s { ends = es }) → t.root ≡ s.root
   root_kept s t es e = ap (λ (r : PortState W Q). r.root) e
 
   -- the parent's end changes, or the child's

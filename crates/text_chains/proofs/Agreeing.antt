@@ -3,7 +3,7 @@ use Rattle.std.proofs.Common.{ℕ, zero, suc, ◌+◌, ◌<◌, ◌≡◌, ◌�
 use Rattle.std.proofs.lemmas.Bool.{eqb-true}
 use Rattle.forec_tree.specs.Terms.{count_terms, Statement, Declare, Nothing, Group, Assign, Invoke, If, While, For, Pause, Par, Abort, Return, Statements, no_statements, more_statements, Perhaps, absent, present, Branches, no_branches, by_call, by_group, Text, PlainFunction}
 use Rattle.forec_tree.specs.Rules.{is_none}
-use Rattle.forec_tree.specs.Pauses.{within, find_function, function_callees, callees_of, started, all_started, perhaps_started, branches_started}
+use Rattle.forec_tree.specs.Pauses.{within, find_function, function_callees, callees_of, started_names, all_started, perhaps_started, branches_started}
 use Rattle.forec_tree.specs.Faults.{is_in, Leads}
 use Rattle.forec_tree.proofs.Agrees.{in_left, in_right, in_head, in_tail}
 use Rattle.loop_check.specs.Graph.{IsOrder}
@@ -16,11 +16,11 @@ use Rattle.forec_check.proofs.TableLemmas.{settles_by}
 use Rattle.text_chains.specs.declared.tally.Tally.{Tally}
 use Rattle.text_chains.specs.Tallies as of
 use Rattle.text_chains.proofs.Sums.{both}
-use Rattle.text_chains.specs.Tallies.{nothing, joined, tally_at, tally_step, tally_value, after, after_perhaps, hides_params}
+use Rattle.text_chains.specs.Tallies.{no_tally, both_tallies, tally_at, tally_step, tally_value, hides_after, hides_after_perhaps, hides_params}
 
 -- ---- tables
 
-pub tally_push : (xs : List Tally) (k : ℕ) → tally_at (xs ++ nothing ∷ []) k ≡ tally_at xs k
+pub tally_push : (xs : List Tally) (k : ℕ) → tally_at (xs ++ no_tally ∷ []) k ≡ tally_at xs k
 tally_push [] zero = refl
 tally_push [] (suc k) = refl
 tally_push (x ∷ xs) zero = refl
@@ -31,10 +31,10 @@ tally_set xs id h v l =
     split (id == h)
     (λ e.
     let q : id ≡ h = eqb-true id h e in
-    ap (λ n. get_or (set xs id v) n nothing) (sym q) ∙ get_or-set_same xs id v nothing l ∙ sym (ap (λ b. cond b v (tally_at xs h)) e))
-    (λ e. get_or-set_other xs id h v nothing (other_id id h e) ∙ sym (ap (λ b. cond b v (tally_at xs h)) e))
+    ap (λ n. get_or (set xs id v) n no_tally) (sym q) ∙ get_or-set_same xs id v no_tally l ∙ sym (ap (λ b. cond b v (tally_at xs h)) e))
+    (λ e. get_or-set_other xs id h v no_tally (other_id id h e) ∙ sym (ap (λ b. cond b v (tally_at xs h)) e))
 
-pub tally_unknown : (h : ℕ) → tally_at [] h ≡ nothing
+pub tally_unknown : (h : ℕ) → tally_at [] h ≡ no_tally
 tally_unknown zero = refl
 tally_unknown (suc h) = refl
 
@@ -57,30 +57,30 @@ module _ (i : ℕ) (array : Bool) (value : ℕ → ℕ) (worth : ℕ) (a b : ℕ
   counted_same x y m n e d = ap (λ (t : Tally). cond t.named 1 0 + m) e ∙ ap (λ k. cond y.named 1 0 + k) d
 
   mutual
-    tally_same : (h : Bool) (s : Statement) → Agree a b (started s) → of.tally i array value worth a h s ≡ of.tally i array value worth b h s
+    tally_same : (h : Bool) (s : Statement) → Agree a b (started_names s) → of.tally i array value worth a h s ≡ of.tally i array value worth b h s
     tally_same h (Nothing at) w = refl
     tally_same h (Group at body) w = all_same h body w
     tally_same h (Declare at locals) w = refl
     tally_same h (Assign at target op e) w = refl
-    tally_same h (Invoke at name args) w = ap (joined (of.of_sets i array value h args)) (w name.id (in_head name.id []))
+    tally_same h (Invoke at name args) w = ap (both_tallies (of.of_sets i array value h args)) (w name.id (in_head name.id []))
     tally_same h (If at test x y) w =
-        ap (joined (of.of_term i array value h test))
-        (both _ _ _ _ (tally_same h x (left a b (started x) (perhaps_started y) w)) (perhaps_same h y (right a b (started x) (perhaps_started y) w)))
-    tally_same h (While at test bound body) w = ap (joined (of.of_term i array value h test)) (tally_same h body w)
+        ap (both_tallies (of.of_term i array value h test))
+        (both _ _ _ _ (tally_same h x (left a b (started_names x) (perhaps_started y) w)) (perhaps_same h y (right a b (started_names x) (perhaps_started y) w)))
+    tally_same h (While at test bound body) w = ap (both_tallies (of.of_term i array value h test)) (tally_same h body w)
     tally_same h (For at start test step bound body) w =
-        let inside = after_perhaps i h start in
-        let rest = right a b (perhaps_started start) (perhaps_started step ++ started body) w in
-        both _ _ _ _ (perhaps_same h start (left a b (perhaps_started start) (perhaps_started step ++ started body) w))
-        (ap (joined (of.of_optional i array value inside test))
-        (both _ _ _ _ (perhaps_same inside step (left a b (perhaps_started step) (started body) rest)) (tally_same (after_perhaps i inside step) body (right a b (perhaps_started step) (started body) rest))))
+        let inside = hides_after_perhaps i h start in
+        let rest = right a b (perhaps_started start) (perhaps_started step ++ started_names body) w in
+        both _ _ _ _ (perhaps_same h start (left a b (perhaps_started start) (perhaps_started step ++ started_names body) w))
+        (ap (both_tallies (of.of_optional i array value inside test))
+        (both _ _ _ _ (perhaps_same inside step (left a b (perhaps_started step) (started_names body) rest)) (tally_same (hides_after_perhaps i inside step) body (right a b (perhaps_started step) (started_names body) rest))))
     tally_same h (Pause at) w = refl
-    tally_same h (Par at bs) w = both _ _ _ _ (ap (λ n. of.calling (cond (Rattle.std.proofs.Common.nat_lt 1 n) worth 0)) (naming_same bs w)) (branches_same h bs w)
-    tally_same h (Abort at weak immediate test body) w = ap (joined (of.of_term i array value h test)) (all_same h body w)
+    tally_same h (Par at bs) w = both _ _ _ _ (ap (λ n. of.call_tally (cond (Rattle.std.proofs.Common.nat_lt 1 n) worth 0)) (naming_same bs w)) (branches_same h bs w)
+    tally_same h (Abort at weak immediate test body) w = ap (both_tallies (of.of_term i array value h test)) (all_same h body w)
     tally_same h (Return at e) w = refl
 
     all_same : (h : Bool) (s : Statements) → Agree a b (all_started s) → of.all_tally i array value worth a h s ≡ of.all_tally i array value worth b h s
     all_same h no_statements w = refl
-    all_same h (more_statements x rest) w = both _ _ _ _ (tally_same h x (left a b (started x) (all_started rest) w)) (all_same (after i h x) rest (right a b (started x) (all_started rest) w))
+    all_same h (more_statements x rest) w = both _ _ _ _ (tally_same h x (left a b (started_names x) (all_started rest) w)) (all_same (hides_after i h x) rest (right a b (started_names x) (all_started rest) w))
 
     perhaps_same : (h : Bool) (s : Perhaps) → Agree a b (perhaps_started s) → of.perhaps_tally i array value worth a h s ≡ of.perhaps_tally i array value worth b h s
     perhaps_same h absent w = refl
@@ -89,11 +89,11 @@ module _ (i : ℕ) (array : Bool) (value : ℕ → ℕ) (worth : ℕ) (a b : ℕ
     branches_same : (h : Bool) (bs : Branches) → Agree a b (branches_started bs) → of.branches_tally i array value worth a h bs ≡ of.branches_tally i array value worth b h bs
     branches_same h no_branches w = refl
     branches_same h (by_call name args rest) w =
-        both _ _ _ _ (ap (λ t. joined (of.of_terms i array value h args) (of.started (count_terms args) t)) (w name.id (in_head name.id (branches_started rest)))) (branches_same h rest (tail a b name.id (branches_started rest) w))
+        both _ _ _ _ (ap (λ t. both_tallies (of.of_terms i array value h args) (of.branch_tally (count_terms args) t)) (w name.id (in_head name.id (branches_started rest)))) (branches_same h rest (tail a b name.id (branches_started rest) w))
     branches_same h (by_group at body rest) w =
-        both _ _ _ _ (ap (of.started 0) (all_same false body (left a b (all_started body) (branches_started rest) w))) (branches_same h rest (right a b (all_started body) (branches_started rest) w))
+        both _ _ _ _ (ap (of.branch_tally 0) (all_same false body (left a b (all_started body) (branches_started rest) w))) (branches_same h rest (right a b (all_started body) (branches_started rest) w))
 
-    naming_same : (bs : Branches) → Agree a b (branches_started bs) → of.count_naming i array value worth a bs ≡ of.count_naming i array value worth b bs
+    naming_same : (bs : Branches) → Agree a b (branches_started bs) → of.branches_naming i array value worth a bs ≡ of.branches_naming i array value worth b bs
     naming_same no_branches w = refl
     naming_same (by_call name args rest) w = counted_same _ _ _ _ (w name.id (in_head name.id (branches_started rest))) (naming_same rest (tail a b name.id (branches_started rest) w))
     naming_same (by_group at body rest) w =
@@ -103,10 +103,10 @@ module _ (i : ℕ) (array : Bool) (value : ℕ → ℕ) (worth : ℕ) (a b : ℕ
   body_same None w = refl
   body_same (Some f) w = all_same (hides_params i false f.params) f.body w
 
-no_function : (i : ℕ) (array : Bool) (value : ℕ → ℕ) (worth : ℕ) (text : Text) (a : ℕ → Tally) (g : ℕ) → is_function text g ≡ false → tally_step i array value worth text a g ≡ nothing
+no_function : (i : ℕ) (array : Bool) (value : ℕ → ℕ) (worth : ℕ) (text : Text) (a : ℕ → Tally) (g : ℕ) → is_function text g ≡ false → tally_step i array value worth text a g ≡ no_tally
 no_function i array value worth text a g h = pick (find_function g text) h
   where
-    pick : (f : Option PlainFunction) → not (is_none f) ≡ false → of.body_tally i array value worth a f ≡ nothing
+    pick : (f : Option PlainFunction) → not (is_none f) ≡ false → of.body_tally i array value worth a f ≡ no_tally
     pick None h = refl
     pick (Some f) h = absurd (let q : true ≡ false = h in cc)
 
@@ -115,12 +115,12 @@ started_list None = refl
 started_list (Some f) = refl
 
 pub tallies_settle : (i : ℕ) (array : Bool) (value : ℕ → ℕ) (worth : ℕ) (text : Text) (functions order : List ℕ) (calls : ℕ → List ℕ) → Read started_in text functions calls → IsOrder functions calls order →
-    ((f : ℕ) → Leads (callees_of text) f f → ⊥) → Settles nothing (tally_step i array value worth text) (tally_value i array value worth text) order
+    ((f : ℕ) → Leads (callees_of text) f f → ⊥) → Settles no_tally (tally_step i array value worth text) (tally_value i array value worth text) order
 unfolding tally_value
 tallies_settle i array value worth text functions order calls r o free =
     let lists = λ (f : ℕ). r.lists f ∙ started_list (find_function f text) in
     let short = o.short in
     let few = r.few in
-    settles_by nothing (tally_step i array value worth text) (length text) functions order calls o
+    settles_by no_tally (tally_step i array value worth text) (length text) functions order calls o
     (record { agrees = λ f a b h. body_same i array value worth a b (find_function f text) (λ g e. h g (ap (is_in g) (lists f) ∙ e)) })
     (λ g h a. no_function i array value worth text a g (sym (r.stands g) ∙ h)) (λ g l. free g (leads_same calls (callees_of text) lists l)) (omega (arith, short, few))

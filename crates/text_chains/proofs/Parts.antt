@@ -11,13 +11,13 @@ use Rattle.forec_kernel.specs.Combining.{contains}
 use Rattle.forec_kernel.specs.Texts.{uses_of}
 use Rattle.forec_kernel.specs.WellFormed.{greatest, count_up, users, stmt_calls, stmts_calls, pars_of, pars_in}
 use Rattle.text_kernel.specs.declared.names.Slot.{Slot}
-use Rattle.text_kernel.specs.Bindings.{local_slot, with_locals, params_at, slots_of, find_slot}
+use Rattle.text_kernel.specs.Bindings.{local_slot, with_local_slots, params_at, slots_of, find_slot}
 use Rattle.text_kernel.specs.Lowering.{sequence, ends_with, scope_after, scope_after_perhaps, Made}
 use Rattle.text_kernel.specs.Kernels.{filter_in}
 use Rattle.text_kernel.proofs.NamedVariables.{in_append}
 use Rattle.text_kernel.proofs.Forks.{at, blank_made}
 use Rattle.text_sizes.proofs.Heights.{made_most}
-use Rattle.text_chains.specs.Tallies.{hides, hides_locals, hides_params, after, after_perhaps}
+use Rattle.text_chains.specs.Tallies.{hides, hides_locals, hides_params, hides_after, hides_after_perhaps}
 
 -- ---- lists
 
@@ -185,7 +185,7 @@ module _ (i : ℕ) where
   seen_more : (s : List Slot) (x : Slot) (h : Bool) → seen s ≡ h → seen (s ++ x ∷ []) ≡ hides i h x.id
   seen_more s x h e = ap is_some (find_more s x None) ∙ (some_or (x.id == i) x (find_slot i None s) ∙ ap (λ t. cond t true (x.id == i)) e)
 
-  pub seen_locals : (s : List Slot) (slot : ℕ) (ls : List Declared) (h : Bool) → seen s ≡ h → seen (with_locals s slot ls) ≡ hides_locals i h ls
+  pub seen_locals : (s : List Slot) (slot : ℕ) (ls : List Declared) (h : Bool) → seen s ≡ h → seen (with_local_slots s slot ls) ≡ hides_locals i h ls
   seen_locals s slot [] h e = e
   seen_locals s slot (l ∷ rest) h e = seen_locals (s ++ local_slot slot l ∷ []) (slot + slots_of l.length) rest (hides i h l.name.id) (seen_more s (local_slot slot l) h e)
 
@@ -198,7 +198,7 @@ module _ (i : ℕ) where
   pub seen_params : (ps : List Name) (slot : ℕ) → seen (params_at slot ps) ≡ hides_params i false ps
   seen_params ps slot = params_found ps slot None false refl
 
-  pub seen_behind : (text : Text) (s : List Slot) (slot : ℕ) (a : Statement) (h : Bool) → seen s ≡ h → seen (scope_after text s slot a) ≡ after i h a
+  pub seen_behind : (text : Text) (s : List Slot) (slot : ℕ) (a : Statement) (h : Bool) → seen s ≡ h → seen (scope_after text s slot a) ≡ hides_after i h a
   seen_behind text s slot (Declare at locals) h e = seen_locals s slot locals h e
   seen_behind text s slot (Nothing at) h e = e
   seen_behind text s slot (Group at body) h e = e
@@ -212,6 +212,6 @@ module _ (i : ℕ) where
   seen_behind text s slot (Abort at weak immediate test body) h e = e
   seen_behind text s slot (Return at value) h e = e
 
-  pub seen_perhaps : (text : Text) (s : List Slot) (slot : ℕ) (a : Perhaps) (h : Bool) → seen s ≡ h → seen (scope_after_perhaps text s slot a) ≡ after_perhaps i h a
+  pub seen_perhaps : (text : Text) (s : List Slot) (slot : ℕ) (a : Perhaps) (h : Bool) → seen s ≡ h → seen (scope_after_perhaps text s slot a) ≡ hides_after_perhaps i h a
   seen_perhaps text s slot absent h e = e
   seen_perhaps text s slot (present a) h e = seen_behind text s slot a h e

@@ -23,7 +23,7 @@ use Rattle.text_kernel.specs.Bindings.{number_among, variable_number, is_int_fun
 use Rattle.text_kernel.specs.Items.{variable_items}
 use Rattle.text_kernel.specs.Lowering.{stands, read_as, vars_in, NextNumbers, Made}
 use Rattle.text_kernel.specs.declared.names.Slot.{Slot}
-use Rattle.text_kernel.specs.Kernels.{kernel_of, root, main_id, thread_shape, variable_shape, variable_count, combine_of, filter_in}
+use Rattle.text_kernel.specs.Kernels.{kernel_of, root, main_id, thread_shape, variable_shape, variable_count, combine_function, filter_in}
 use Rattle.text_kernel.proofs.Faultless.{Clean, own_item}
 use Rattle.text_kernel.proofs.ByNumber.{Numbered, numbered_in}
 use Rattle.text_kernel.proofs.VariableNumbers.{apart, width_of, numbers_below}
@@ -31,7 +31,7 @@ use Rattle.text_kernel.proofs.Known.{first_of, known_thread}
 use Rattle.text_kernel.proofs.Fields as fields
 use Rattle.text_kernel.proofs.Forks.{at, blank_made}
 use Rattle.text_sizes.proofs.Heights.{made_most}
-use Rattle.text_chains.specs.Tallies.{tally_value, tally_step, nothing, names_alone, names_indexed}
+use Rattle.text_chains.specs.Tallies.{tally_value, tally_step, no_tally, names_alone, names_indexed}
 use Rattle.text_chains.specs.Peaks.{called_words, most_words, peak_by, peak_of, peak_over}
 use Rattle.text_chains.proofs.Parts.{folds, thread_measure, SitsIn, seen}
 use Rattle.text_chains.proofs.Telling.{row_as, Tells, place_told}
@@ -192,13 +192,13 @@ module _ (text : Text) (names : List (List ℕ)) where
     numbered n l = let many = variables_counted text in numbered_in text names none_before text clean.items n (omega (arith, l, many))
 
     -- the variable of a number combines as its global does
-    combine_is : (n : ℕ) (l : n < variable_count text names) (r : Numbered text names text n) → (variable_of (kernel_of text names) n).combine ≡ combine_of text names r.global.combine
+    combine_is : (n : ℕ) (l : n < variable_count text names) (r : Numbered text names text n) → (variable_of (kernel_of text names) n).combine ≡ combine_function text names r.global.combine
     unfolding kernel_of
     combine_is n l r =
         let many = variables_counted text in
         let low : n < length (variables text) = omega (arith, l, many) in
         ap (λ (x : Variable). x.combine) (get_or-map (variable_shape text names) (variables text) n blank _ low)
-        ∙ ap (λ (g : PlainGlobal). combine_of text names g.combine) (r.of (get_or (variables text) n blank) (slice_get-get_or (variables text) n blank low))
+        ∙ ap (λ (g : PlainGlobal). combine_function text names g.combine) (r.of (get_or (variables text) n blank) (slice_get-get_or (variables text) n blank low))
 
     -- an element of a global that isn't a constant
     record Part (g : PlainGlobal) (n : ℕ) : Type 0 where
@@ -207,7 +207,7 @@ module _ (text : Text) (names : List (List ℕ)) where
       nth : ℕ
       is_one : nth < width g
       number : variable_number g.name.id text + nth ≡ n
-      combine : (variable_of (kernel_of text names) n).combine ≡ combine_of text names g.combine
+      combine : (variable_of (kernel_of text names) n).combine ≡ combine_function text names g.combine
 
     part_at : (n : ℕ) (l : n < variable_count text names) (r : Numbered text names text n) → Part r.global n
     part_at n l r =
@@ -265,7 +265,7 @@ module _ (text : Text) (names : List (List ℕ)) where
           nth = 0;
           is_one = one;
           number = refl;
-          combine = combine_is (variable_number g.name.id text + 0) l r ∙ ap (λ (x : PlainGlobal). combine_of text names x.combine) (same_owner g is c.changes 0 one r);
+          combine = combine_is (variable_number g.name.id text + 0) l r ∙ ap (λ (x : PlainGlobal). combine_function text names x.combine) (same_owner g is c.changes 0 one r);
         }
 
     module _ (u : ℕ → ℕ) where
@@ -283,9 +283,9 @@ module _ (text : Text) (names : List (List ℕ)) where
           ∙ ap (λ x. min (by_variable u (kernel_of text names) x worth) (2 ^ 64 - 1)) p.number
 
       combined_is : (g : PlainGlobal) (n : ℕ) (o : Option Combine) → Part g n → g.combine ≡ o → combined u (kernel_of text names) n ≡ elim o [ None ↦ 0 | Some c ↦ valued c.with.id ]
-      combined_is g n o p e = ap (λ x. elim x [ None ↦ 0 | Some f ↦ u f ]) (p.combine ∙ ap (combine_of text names) e) ∙ pick o
+      combined_is g n o p e = ap (λ x. elim x [ None ↦ 0 | Some f ↦ u f ]) (p.combine ∙ ap (combine_function text names) e) ∙ pick o
         where
-          pick : (o : Option Combine) → ◌≡◌ {A = ℕ} (elim (combine_of text names o) [ None ↦ 0 | Some f ↦ u f ]) (elim o [ None ↦ 0 | Some c ↦ valued c.with.id ])
+          pick : (o : Option Combine) → ◌≡◌ {A = ℕ} (elim (combine_function text names o) [ None ↦ 0 | Some f ↦ u f ]) (elim o [ None ↦ 0 | Some c ↦ valued c.with.id ])
           pick None = refl
           pick (Some c) = refl
 

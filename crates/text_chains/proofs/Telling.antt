@@ -6,7 +6,7 @@ use Rattle.forec_base.specs.declared.Place.{Place}
 use Rattle.forec_tree.specs.declared.tree.Name.{Name}
 use Rattle.forec_tree.specs.declared.tree.Number.{Number}
 use Rattle.forec_tree.specs.declared.tree.OpAt.{OpAt}
-use Rattle.forec_tree.specs.Terms.{Term, Num, Read, Element, Un, Bin, And, Or, Choose, Call, Terms, no_terms, more_terms, count_terms, Declared, Written, Statement, Declare, Nothing, Group, Assign, Invoke, If, While, For, Pause, Par, Abort, Return, Statements, no_statements, more_statements, Perhaps, absent, present, Branches, no_branches, by_call, by_group, Text, PlainFunction}
+use Rattle.forec_tree.specs.Terms.{Term, Num, Read, Element, Un, Bin, And, Or, Choose, Call, Terms, no_terms, more_terms, count_terms, Declared, PlainTarget, Statement, Declare, Nothing, Group, Assign, Invoke, If, While, For, Pause, Par, Abort, Return, Statements, no_statements, more_statements, Perhaps, absent, present, Branches, no_branches, by_call, by_group, Text, PlainFunction}
 use Rattle.forec_tree.specs.Pauses.{within, find_function}
 use Rattle.forec_tree.specs.Faults.{is_in}
 use Rattle.forec_kernel.specs.declared.terms.Spot.TheVariants as spot
@@ -19,9 +19,9 @@ use Rattle.forec_kernel.specs.WellFormed.{greatest, count_up, users, calls_of, c
 use Rattle.text_kernel.specs.declared.names.Slot.{Slot}
 use Rattle.text_kernel.specs.declared.names.Stands.{Stands}
 use Rattle.text_kernel.specs.declared.names.Stands.TheVariants as st
-use Rattle.text_kernel.specs.Bindings.{with_locals, params_at, slots_of, number_of, number_among, is_int_function, find_slot}
+use Rattle.text_kernel.specs.Bindings.{with_local_slots, params_at, slots_of, number_of, number_among, is_int_function, find_slot}
 use Rattle.text_kernel.specs.Lowering as low
-use Rattle.text_kernel.specs.Lowering.{read_as, element_as, stands, lower_term, lower_terms, sequence, ends_with, operated, assign_to, assign_at, array_values, lower_local, lower_locals, slots_after, set_params, optional_test, lower_target, lower_statement, lower_list, lower_perhaps, lower_branches, scope_after, scope_after_perhaps, after_start, then_step, par_of, par_after, bound_of, or_inferred, params_of, vars_in, vars_all, vars_of, vars_list, vars_launches, vars_made, NextNumbers, Made, Lowered, Inlined, inlined_body, inlined_step, nothing_inlined}
+use Rattle.text_kernel.specs.Lowering.{read_as, element_as, stands, lower_term, lower_terms, sequence, ends_with, operated_expr, assign_to, assign_at, array_values, lower_local, lower_locals, slots_after, set_params, optional_test, lower_target, lower_statement, lower_list, lower_perhaps, lower_branches, scope_after, scope_after_perhaps, after_start, then_step, par_of, par_after, bound_of, or_inferred, param_names, vars_in, vars_all, vars_of, vars_list, vars_launches, vars_made, NextNumbers, Made, Lowered, Inlined, inlined_body, inlined_step, nothing_inlined}
 use Rattle.text_kernel.specs.Kernels.{filter_in}
 use Rattle.text_kernel.proofs.NamedVariables.{in_append, sequence_vars, ends_vars}
 use Rattle.text_kernel.proofs.Covered.{vars_append}
@@ -31,7 +31,7 @@ use Rattle.text_sizes.proofs.Heights.{made_most}
 use Rattle.text_chains.proofs.Parts.{greatest_append, sequence_calls, ends_calls, ends_pars, crossed, or_none, in_again, in_swap, most_again, most_swap, folds, folds_append, folds_swap, thread_measure, SitsIn, sits_left, sits_right, filtered, made_append, in_behind, most_behind, folds_behind, seen, seen_locals, seen_params, seen_behind, seen_perhaps}
 use Rattle.text_chains.specs.declared.tally.Tally.{Tally}
 use Rattle.text_chains.specs.Tallies as of
-use Rattle.text_chains.specs.Tallies.{plus, nothing, naming, calling, taking, joined, whole, started, names_alone, names_indexed, hides, hides_locals, hides_params, after, after_perhaps}
+use Rattle.text_chains.specs.Tallies.{plus, no_tally, naming_tally, call_tally, taking, both_tallies, whole, branch_tally, names_alone, names_indexed, hides, hides_locals, hides_params, hides_after, hides_after_perhaps}
 
 -- ---- what stands for a name
 
@@ -214,11 +214,11 @@ module _
     pub words : p.words ≡ min taken (2 ^ 64 - 1)
     pub peak : p.peak ≡ min (made_most measure made) (2 ^ 64 - 1)
 
-  none_told : (from : ℕ) → Tells [] [] [] [] from from nothing
+  none_told : (from : ℕ) → Tells [] [] [] [] from from no_tally
   none_told from = record { taken = 0; named = λ r. refl; calls = omega arith; slot = omega arith; words = omega arith; peak = omega arith }
 
   two : (vs ws cs ds : List ℕ) (ps qs : List (List ℕ)) (m n : List Made) (from mid to : ℕ) (p q : Tally) → Tells vs cs ps m from mid p → Tells ws ds qs n mid to q →
-      Tells (vs ++ ws) (cs ++ ds) (ps ++ qs) (m ++ n) from to (joined p q)
+      Tells (vs ++ ws) (cs ++ ds) (ps ++ qs) (m ++ n) from to (both_tallies p q)
   two vs ws cs ds ps qs m n from mid to p q x y =
       let sx = x.slot in
       let sy = y.slot in
@@ -257,16 +257,16 @@ module _
   took : (from n : ℕ) → Tells [] [] [] [] from (from + n) (taking n)
   took from n = record { taken = n; named = λ r. refl; calls = omega arith; slot = omega arith; words = omega arith; peak = omega arith }
 
-  called_one : (from f : ℕ) → Tells [] (f ∷ []) [] [] from from (calling (u f))
+  called_one : (from f : ℕ) → Tells [] (f ∷ []) [] [] from from (call_tally (u f))
   called_one from f = record { taken = 0; named = λ r. refl; calls = omega arith; slot = omega arith; words = omega arith; peak = omega arith }
 
   -- ---- terms
 
-  read_told : (from : ℕ) (s : List Slot) (h : Bool) → seen i s ≡ h → (id : ℕ) → Tells (vars_in (read_as (stands text s id))) [] [] [] from from (naming (names_alone i array h id))
+  read_told : (from : ℕ) (s : List Slot) (h : Bool) → seen i s ≡ h → (id : ℕ) → Tells (vars_in (read_as (stands text s id))) [] [] [] from from (naming_tally (names_alone i array h id))
   read_told from s h e id =
       record { taken = 0; named = λ r. or_none (is_in v (vars_in (read_as (stands text s id)))) ∙ reads r s h e id; calls = omega arith; slot = omega arith; words = omega arith; peak = omega arith }
 
-  row_told : (from : ℕ) (s : List Slot) (h : Bool) → seen i s ≡ h → (id : ℕ) → Tells (row_as (stands text s id)) [] [] [] from from (naming (names_indexed i array h id))
+  row_told : (from : ℕ) (s : List Slot) (h : Bool) → seen i s ≡ h → (id : ℕ) → Tells (row_as (stands text s id)) [] [] [] from from (naming_tally (names_indexed i array h id))
   row_told from s h e id =
       record { taken = 0; named = λ r. or_none (is_in v (row_as (stands text s id))) ∙ rows r s h e id; calls = omega arith; slot = omega arith; words = omega arith; peak = omega arith }
 
@@ -311,7 +311,7 @@ module _
         | Some n ↦ sequence (more_stmts (kernel.Clear slot (number_of n)) (array_values text s slot (number_of n) 0 es place))
         | None ↦ elim es [ no_terms ↦ kernel.Clear slot 1 | more_terms e rest ↦ kernel.Set (spot.Local slot) (lower_term text s e) ]
       ] in
-      Tells (vars_of a) (stmt_calls a) (pars_of a) [] slot (slot + slots_of size) (joined (taking (slots_of size)) (elim size [ None ↦ of.of_first i array value h es | Some n ↦ of.of_terms i array value h es ]))
+      Tells (vars_of a) (stmt_calls a) (pars_of a) [] slot (slot + slots_of size) (both_tallies (taking (slots_of size)) (elim size [ None ↦ of.of_first i array value h es | Some n ↦ of.of_terms i array value h es ]))
   local_told s h w slot None no_terms place = two [] [] [] [] [] [] [] [] slot (slot + 1) (slot + 1) _ _ (took slot 1) (none_told (slot + 1))
   local_told s h w slot None (more_terms e rest) place = two [] _ [] _ [] [] [] [] slot (slot + 1) (slot + 1) _ _ (took slot 1) (term_told (slot + 1) s h w e)
   local_told s h w slot (Some n) es place =
@@ -325,11 +325,11 @@ module _
   locals_told s h w slot [] = none_told slot
   locals_told s h w slot (l ∷ rest) =
       two _ _ _ _ _ _ [] [] slot (slot + slots_of l.length) (slots_after text (slot + slots_of l.length) rest) _ _ (local_told s h w slot l.length l.values l.name.place)
-      (locals_told (with_locals s slot (l ∷ [])) (hides i h l.name.id) (seen_locals i s slot (l ∷ []) h w) (slot + slots_of l.length) rest)
+      (locals_told (with_local_slots s slot (l ∷ [])) (hides i h l.name.id) (seen_locals i s slot (l ∷ []) h w) (slot + slots_of l.length) rest)
 
   target_told : (from : ℕ) (s : List Slot) (h : Bool) → seen i s ≡ h → (name : Name) (index : Option Term) (op : Option OpAt) (x : Expr) (q : Tally) → Tells (vars_in x) (calls_of x) [] [] from from q →
       let a : Stmt = elim index [ None ↦ assign_to (stands text s name.id) op x | Some e ↦ assign_at (stands text s name.id) op (lower_term text s e) x name.place ] in
-      Tells (vars_of a) (stmt_calls a) (pars_of a) [] from from (joined (elim index [ None ↦ naming (names_alone i array h name.id) | Some e ↦ joined (naming (names_indexed i array h name.id)) (of.of_term i array value h e) ]) q)
+      Tells (vars_of a) (stmt_calls a) (pars_of a) [] from from (both_tallies (elim index [ None ↦ naming_tally (names_alone i array h name.id) | Some e ↦ both_tallies (naming_tally (names_indexed i array h name.id)) (of.of_term i array value h e) ]) q)
   target_told from s h w name None op x q y =
       let st = stands text s name.id in
       alike _ _ _ _ [] _ [] from from _ (set_vars v st op x) (ap (greatest u) (set_calls st op x)) (ap (folds k v worth) (set_pars st op x)) (two _ _ [] _ [] [] [] [] from from from _ _ (read_told from s h w name.id) y)
@@ -355,7 +355,7 @@ module _
 
     -- a branch is a thread of its own
     thread_told : (from params : ℕ) (t q : ℕ) (name : Option ℕ) (parameters : ℕ) (l : Lowered) (p : Tally) → Tells (vars_of l.stmt) (stmt_calls l.stmt) (pars_of l.stmt) l.made params l.next.slot p →
-        Tells [] [] [] (low.thread_of t q name parameters l) from from (started params p)
+        Tells [] [] [] (low.made_thread t q name parameters l) from from (branch_tally params p)
     thread_told from params t q name parameters l p x =
         let c = x.calls in
         let s = x.slot in
@@ -372,7 +372,7 @@ module _
 
     -- a thread uses the variable where it, or a thread below it, names it
     uses_told : (thread : ℕ) (t q : ℕ) (name : Option ℕ) (parameters from : ℕ) (l : Lowered) (p : Tally) (rest : List Made) → Tells (vars_of l.stmt) (stmt_calls l.stmt) (pars_of l.stmt) l.made from l.next.slot p →
-        SitsIn k count thread (low.thread_of t q name parameters l ++ rest) → Real → contains v (uses_of k thread) ≡ p.named
+        SitsIn k count thread (low.made_thread t q name parameters l ++ rest) → Real → contains v (uses_of k thread) ≡ p.named
     uses_told thread t q name parameters from l p rest x z r =
         let here_ : thread ≡ thread + 0 = omega arith in
         let named = vars_of l.stmt ++ vars_made l.made in
@@ -392,7 +392,7 @@ module _
     one_user true false m n e d = cc
     one_user false true m n e d = cc
 
-    folds_one : (threads : List ℕ) (n : ℕ) → (Real → users k threads v ≡ n) → folds k v worth (threads ∷ []) ≡ of.folded i array value worth known n
+    folds_one : (threads : List ℕ) (n : ℕ) → (Real → users k threads v ≡ n) → folds k v worth (threads ∷ []) ≡ of.calls_worth i array value worth known n
     folds_one threads n h =
         ⊎_elim (λ r. (let e = ap (λ m. cond (nat_lt 1 m) worth 0) (h r) in omega (arith, e)))
         (λ z. (let a = no_worth (nat_lt 1 (users k threads v)) z in let b = no_worth (nat_lt 1 n) z in omega (arith, a, b))) either
@@ -402,14 +402,14 @@ module _
         no_worth false z = refl
 
     par_listed : (ls : List Branch) (made : List Made) (from n : ℕ) (p : Tally) → Branched ls made from p → (Real → users k (threads_in ls) v ≡ n) → (ls ≡ [] → n ≡ 0) →
-        Tells (vars_of (par_of ls)) (stmt_calls (par_of ls)) (pars_of (par_of ls)) made from from (joined (calling (of.folded i array value worth known n)) p)
+        Tells (vars_of (par_of ls)) (stmt_calls (par_of ls)) (pars_of (par_of ls)) made from from (both_tallies (call_tally (of.calls_worth i array value worth known n)) p)
     par_listed [] made from n p x h z =
-        let e = ap (λ m. of.folded i array value worth known m) (z refl) in
-        let none : Tells [] [] [] [] from from (calling (of.folded i array value worth known n)) = record { taken = 0; named = λ r. refl; calls = omega (arith, e); slot = omega arith; words = omega arith; peak = omega arith } in
+        let e = ap (λ m. of.calls_worth i array value worth known m) (z refl) in
+        let none : Tells [] [] [] [] from from (call_tally (of.calls_worth i array value worth known n)) = record { taken = 0; named = λ r. refl; calls = omega (arith, e); slot = omega arith; words = omega arith; peak = omega arith } in
         two [] _ [] _ [] [] [] made from from from _ p none x
     par_listed (b ∷ ls) made from n p x h z =
         let e = folds_one (threads_in (b ∷ ls)) n h in
-        let one : Tells [] [] (threads_in (b ∷ ls) ∷ []) [] from from (calling (of.folded i array value worth known n)) =
+        let one : Tells [] [] (threads_in (b ∷ ls) ∷ []) [] from from (call_tally (of.calls_worth i array value worth known n)) =
         record { taken = 0; named = λ r. refl; calls = omega (arith, e); slot = omega arith; words = omega arith; peak = omega arith } in
         two [] _ [] _ (threads_in (b ∷ ls) ∷ []) [] [] made from from from _ p one x
 
@@ -432,7 +432,7 @@ module _
     branches_slot t s q n (by_group at body rest) =
         let l = lower_list text called n.thread [] (record { slot = 0; thread = suc n.thread; par = n.par }) body in branches_slot t s q (record { slot = n.slot; thread = l.next.thread; par = l.next.par }) rest
 
-    no_launch : (t : ℕ) (s : List Slot) (q : ℕ) (n : NextNumbers) (bs : Branches) → (lower_branches text called t s q n bs).launches ≡ [] → of.count_naming i array value worth known bs ≡ 0
+    no_launch : (t : ℕ) (s : List Slot) (q : ℕ) (n : NextNumbers) (bs : Branches) → (lower_branches text called t s q n bs).launches ≡ [] → of.branches_naming i array value worth known bs ≡ 0
     no_launch t s q n no_branches e = refl
     no_launch t s q n (by_call name args rest) e = cc
     no_launch t s q n (by_group at body rest) e = cc
@@ -473,8 +473,8 @@ module _
           let j0 = lower_perhaps text called t scope i0.next step in
           let inner = scope_after_perhaps text scope i0.next.slot step in
           let l0 = lower_statement text called t inner j0.next body in
-          let hidden = after_perhaps i h start in
-          let deeper = after_perhaps i hidden step in
+          let hidden = hides_after_perhaps i h start in
+          let deeper = hides_after_perhaps i hidden step in
           let w1 = seen_perhaps i text s n.slot start h w in
           let w2 = seen_perhaps i text scope i0.next.slot step hidden w1 in
           let z1 = sits_right k count n.thread i0.next.thread i0.made (j0.made ++ l0.made) (perhaps_thread t s n start) z in
@@ -502,7 +502,7 @@ module _
           let next : NextNumbers = record { slot = n.slot; thread = n.thread; par = par_after bs n.par } in
           let m = lower_branches text called t s n.par next bs in
           ended _ _ _ m.made n.slot n.slot m.next.slot _ (branches_slot t s n.par next bs)
-          (par_listed m.launches m.made n.slot (of.count_naming i array value worth known bs) _ (branches_told t s n.par next h bs w z) (users_told t s n.par next bs z) (no_launch t s n.par next bs))
+          (par_listed m.launches m.made n.slot (of.branches_naming i array value worth known bs) _ (branches_told t s n.par next h bs w z) (users_told t s n.par next bs z) (no_launch t s n.par next bs))
       told t s n h (Abort at weak immediate test body) w z =
           let l = lower_list text called t s n body in
           listed _ _ _ _ _ _ l.made n.slot l.next.slot _ (ap (λ x. vars_in (lower_term text s test) ++ x) (sequence_vars l.list)) (ap (λ x. calls_of (lower_term text s test) ++ x) (sequence_calls l.list)) (sequence_pars l.list)
@@ -517,7 +517,7 @@ module _
           let scope = scope_after text s n.slot a in
           let m = lower_list text called t scope l.next rest in
           two _ _ _ _ _ _ l.made m.made n.slot l.next.slot m.next.slot _ _ (told t s n h a w (sits_left k count n.thread l.made m.made z))
-          (list_told t scope l.next (after i h a) rest (seen_behind i text s n.slot a h w) (sits_right k count n.thread l.next.thread l.made m.made (one_thread t s n a) z))
+          (list_told t scope l.next (hides_after i h a) rest (seen_behind i text s n.slot a h w) (sits_right k count n.thread l.next.thread l.made m.made (one_thread t s n a) z))
 
       perhaps_told : (t : ℕ) (s : List Slot) (n : NextNumbers) (h : Bool) (a : Perhaps) → seen i s ≡ h → SitsIn k count n.thread (lower_perhaps text called t s n a).made →
           let l = lower_perhaps text called t s n a in Tells (vars_of l.stmt) (stmt_calls l.stmt) (pars_of l.stmt) l.made n.slot l.next.slot (of.perhaps_tally i array value worth known h a)
@@ -532,8 +532,8 @@ module _
           let b = called name.id 0 n.thread inner in
           let next : NextNumbers = record { slot = n.slot; thread = b.next.thread; par = b.next.par } in
           let m = lower_branches text called t s q next rest in
-          let params = length (params_of (find_function name.id text)) in
-          let first = low.thread_of t q (Some name.id) params b in
+          let params = length (param_names (find_function name.id text)) in
+          let first = low.made_thread t q (Some name.id) params b in
           let grew = threads_grow (grown name.id 0 n.thread inner).grown in
           let own = right name.id 0 n.thread inner (sits_left k count (suc n.thread) b.made m.made (below_sits n.thread _ (b.made ++ m.made) z)) in
           let x = two _ [] _ [] [] [] [] first n.slot n.slot n.slot _ _ (terms_told n.slot s h w args) (thread_told n.slot (count_terms args) t q (Some name.id) params b (known name.id) own) in
@@ -545,25 +545,25 @@ module _
           let b : Lowered = record { stmt = sequence l.list; next = l.next; made = l.made } in
           let next : NextNumbers = record { slot = n.slot; thread = l.next.thread; par = l.next.par } in
           let m = lower_branches text called t s q next rest in
-          let first = low.thread_of t q None 0 b in
+          let first = low.made_thread t q None 0 b in
           let grew = list_thread n.thread [] inner body in
           let own = as_one l 0 _ (list_told n.thread [] inner false body refl (sits_left k count (suc n.thread) l.made m.made (below_sits n.thread _ (l.made ++ m.made) z))) in
           two [] _ [] _ [] [] first m.made n.slot n.slot n.slot _ _ (thread_told n.slot 0 t q None 0 b _ own)
           (branches_told t s q next h rest w (sits_right k count n.thread l.next.thread first m.made (omega (arith, grew)) z))
 
       users_told : (t : ℕ) (s : List Slot) (q : ℕ) (n : NextNumbers) (bs : Branches) → SitsIn k count n.thread (lower_branches text called t s q n bs).made → Real →
-          users k (threads_in (lower_branches text called t s q n bs).launches) v ≡ of.count_naming i array value worth known bs
+          users k (threads_in (lower_branches text called t s q n bs).launches) v ≡ of.branches_naming i array value worth known bs
       users_told t s q n no_branches z r = refl
       users_told t s q n (by_call name args rest) z r =
           let inner : NextNumbers = record { slot = count_terms args; thread = suc n.thread; par = n.par } in
           let b = called name.id 0 n.thread inner in
           let next : NextNumbers = record { slot = n.slot; thread = b.next.thread; par = b.next.par } in
           let m = lower_branches text called t s q next rest in
-          let params = length (params_of (find_function name.id text)) in
-          let first = low.thread_of t q (Some name.id) params b in
+          let params = length (param_names (find_function name.id text)) in
+          let first = low.made_thread t q (Some name.id) params b in
           let grew = threads_grow (grown name.id 0 n.thread inner).grown in
           let own = right name.id 0 n.thread inner (sits_left k count (suc n.thread) b.made m.made (below_sits n.thread _ (b.made ++ m.made) z)) in
-          one_user (contains v (uses_of k n.thread)) (known name.id).named (users k (threads_in m.launches) v) (of.count_naming i array value worth known rest)
+          one_user (contains v (uses_of k n.thread)) (known name.id).named (users k (threads_in m.launches) v) (of.branches_naming i array value worth known rest)
           (uses_told n.thread t q (Some name.id) params (count_terms args) b (known name.id) m.made own z r) (users_told t s q next rest (sits_right k count n.thread b.next.thread first m.made (omega (arith, grew)) z) r)
       users_told t s q n (by_group at body rest) z r =
           let inner : NextNumbers = record { slot = 0; thread = suc n.thread; par = n.par } in
@@ -571,10 +571,10 @@ module _
           let b : Lowered = record { stmt = sequence l.list; next = l.next; made = l.made } in
           let next : NextNumbers = record { slot = n.slot; thread = l.next.thread; par = l.next.par } in
           let m = lower_branches text called t s q next rest in
-          let first = low.thread_of t q None 0 b in
+          let first = low.made_thread t q None 0 b in
           let grew = list_thread n.thread [] inner body in
           let own = as_one l 0 _ (list_told n.thread [] inner false body refl (sits_left k count (suc n.thread) l.made m.made (below_sits n.thread _ (l.made ++ m.made) z))) in
-          one_user (contains v (uses_of k n.thread)) (of.all_tally i array value worth known false body).named (users k (threads_in m.launches) v) (of.count_naming i array value worth known rest)
+          one_user (contains v (uses_of k n.thread)) (of.all_tally i array value worth known false body).named (users k (threads_in m.launches) v) (of.branches_naming i array value worth known rest)
           (uses_told n.thread t q None 0 0 b _ m.made own z r) (users_told t s q next rest (sits_right k count n.thread l.next.thread first m.made (omega (arith, grew)) z) r)
 
   -- ---- functions that are put in place
@@ -591,8 +591,8 @@ module _
       (list_told called known grown right t (params_at first f.params) n (hides_params i false f.params) f.body (seen_params i f.params first) z)
 
   pub place_told : (deep id first t : ℕ) (n : NextNumbers) → let l = within nothing_inlined (inlined_step text) deep id first t n in
-      SitsIn k count n.thread l.made → Tells (vars_of l.stmt) (stmt_calls l.stmt) (pars_of l.stmt) l.made n.slot l.next.slot (within nothing (of.tally_step i array value worth text) deep id)
+      SitsIn k count n.thread l.made → Tells (vars_of l.stmt) (stmt_calls l.stmt) (pars_of l.stmt) l.made n.slot l.next.slot (within no_tally (of.tally_step i array value worth text) deep id)
   unfolding within
   place_told zero id first t n z = none_told n.slot
   place_told (suc deep) id first t n z =
-      body_told (within nothing_inlined (inlined_step text) deep) (within nothing (of.tally_step i array value worth text) deep) (inlined_grows text deep) (place_told deep) (find_function id text) first t n z
+      body_told (within nothing_inlined (inlined_step text) deep) (within no_tally (of.tally_step i array value worth text) deep) (inlined_grows text deep) (place_told deep) (find_function id text) first t n z

@@ -5,7 +5,7 @@ use Rattle.forec_kernel.specs.Texts.{words_of}
 use Rattle.forec_kernel.specs.WellFormed.{count_up, greatest, thread_calls}
 use Rattle.forec_tree.specs.Terms.{Text, PlainGlobal}
 use Rattle.forec_tree.specs.Scopes.{stated_length}
-use Rattle.text_chains.specs.Tallies.{started, tally_value}
+use Rattle.text_chains.specs.Tallies.{branch_tally, tally_value}
 
 -- with the words of each int function and all that it calls
 abbrev pub called_words : (ℕ → ℕ) → PlainKernel → ℕ → ℕ
@@ -16,7 +16,7 @@ most_words value k = greatest (called_words value k) (count_up 0 (length k.threa
 
 -- the same, counted on a text that starts with the function of a name, for the combine function of one variable or array
 abbrev pub peak_by : (variable : ℕ) → (array : Bool) → (ℕ → ℕ) → (worth : ℕ) → Text → ℕ → ℕ
-peak_by variable array value worth text first = (started 0 (tally_value variable array value worth text first)).peak
+peak_by variable array value worth text first = (branch_tally 0 (tally_value variable array value worth text first)).peak
 
 -- the same for the combine function of a global
 abbrev pub peak_of : (ℕ → ℕ) → Text → ℕ → PlainGlobal → ℕ

@@ -21,7 +21,7 @@ struct Spread {
 
 /// Whether the variable is hidden after a statement.
 fn after(w: &Weights<'_>, hidden: bool, s: &Stmt) -> bool
-    ensures { result ≡ of.after w.now.variable hidden (plain.statement s.now) }
+    ensures { result ≡ of.hides_after w.now.variable hidden (plain.statement s.now) }
 {
     match &s.what {
         StmtKind::Declare { locals } => hides_locals(w, hidden, locals.as_slice()),
@@ -30,7 +30,7 @@ fn after(w: &Weights<'_>, hidden: bool, s: &Stmt) -> bool
 }
 
 fn after_optional(w: &Weights<'_>, hidden: bool, s: &Option<Box<Stmt>>) -> bool
-    ensures { result ≡ of.after_perhaps w.now.variable hidden (perhaps_of s.now) }
+    ensures { result ≡ of.hides_after_perhaps w.now.variable hidden (perhaps_of s.now) }
 {
     match s {
         None => hidden,
@@ -40,7 +40,7 @@ fn after_optional(w: &Weights<'_>, hidden: bool, s: &Option<Box<Stmt>>) -> bool
 
 /// What a `par` calls, of whose branches so many name the variable.
 fn folded(w: &Weights<'_>, naming: usize) -> u64
-    ensures { (known : ℕ → Tally) → result ≡ of.folded w.now.variable w.now.array (value_by w.now) w.now.worth known naming }
+    ensures { (known : ℕ → Tally) → result ≡ of.calls_worth w.now.variable w.now.array (value_by w.now) w.now.worth known naming }
 {
     if 1 < naming { w.worth } else { 0 }
 }
@@ -152,7 +152,7 @@ fn branch(w: &Weights<'_>, table: &[Tally], hidden: bool, b: &Branch) -> Spread
 #[cycle(statement)]
 fn branches(w: &Weights<'_>, table: &[Tally], hidden: bool, list: &[Branch]) -> Spread
     ensures tally { result.tally ≡ of.branches_tally w.now.variable w.now.array (value_by w.now) w.now.worth (tally_at table.now) hidden (plain.branches list.now) }
-    ensures naming { result.naming ≡ of.count_naming w.now.variable w.now.array (value_by w.now) w.now.worth (tally_at table.now) (plain.branches list.now) }
+    ensures naming { result.naming ≡ of.branches_naming w.now.variable w.now.array (value_by w.now) w.now.worth (tally_at table.now) (plain.branches list.now) }
 {
     let mut total = Spread {
         tally: nothing(),

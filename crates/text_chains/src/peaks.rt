@@ -6,7 +6,7 @@ ghost use Rattle.std.specs.Prelude.{◌≡◌, ◌-◌, ◌^◌, ℕ, min, max, 
 ghost use Rattle.forec_tree.specs.Plain.{plain_global};
 ghost use Rattle.forec_tree.specs.Faults.{Leads};
 ghost use Rattle.forec_tree.specs.Pauses.{callees_of};
-ghost use Rattle.loop_check.specs.Views.{text_of};
+ghost use Rattle.loop_check.specs.Views.{indexed_text};
 ghost use Rattle.forec_check.specs.Table.{put_at, Settles};
 ghost use Rattle.forec_check.specs.Faultless.{Faultless};
 ghost use Rattle.text_kernel.specs.Bindings.{number_among, is_int_function};
@@ -14,7 +14,7 @@ ghost use Rattle.text_kernel.specs.Items.{globals_of, variable_items};
 ghost use Rattle.text_kernel.specs.Kernels.{kernel_of, main_id};
 ghost use Rattle.text_chains.specs.Tallies as of;
 ghost use Rattle.text_chains.specs.Peaks as peaks;
-ghost use Rattle.text_chains.specs.Views.{value_by, Settled, HasTallies};
+ghost use Rattle.text_chains.specs.Views.{value_by, SettlesTallies, HasTallies};
 
 use crate::bodies::all;
 use crate::tally::{Tally, Weights, known_of, nothing, started, value};
@@ -27,7 +27,7 @@ use std::alloc::Global;
 
 /// What the text of the function of a number brings.
 fn function_tally(w: &Weights<'_>, table: &[Tally], id: u32) -> Tally
-    ensures { result ≡ of.tally_step w.now.variable w.now.array (value_by w.now) w.now.worth (text_of w.now.globals.now.index) (of.tally_at table.now) id }
+    ensures { result ≡ of.tally_step w.now.variable w.now.array (value_by w.now) w.now.worth (indexed_text w.now.globals.now.index) (of.tally_at table.now) id }
 {
     match find_function(&w.globals.index, id) {
         None => nothing(),
@@ -51,7 +51,7 @@ fn put(table: &mut Vec<Tally>, id: u32, known: Tally) -> Result<(), OutOfMemory>
 
 /// What each function brings, each after those that it calls or starts.
 fn table_of(alloc: Global, w: &Weights<'_>, order: &[u32]) -> Result<Vec<Tally>, OutOfMemory>
-    requires { Settled (text_of w.now.globals.now.index) order.now }
+    requires { SettlesTallies (indexed_text w.now.globals.now.index) order.now }
     ensures { IfOk result (λ table. HasTallies w.now table.items) }
 {
     let mut table = Vec::new(alloc);
@@ -65,8 +65,8 @@ fn table_of(alloc: Global, w: &Weights<'_>, order: &[u32]) -> Result<Vec<Tally>,
 /// The most words of a thread of a program that starts with the function of a name, with the combine
 /// function of one variable.
 fn peak(alloc: Global, w: &Weights<'_>, order: &[u32], first: u32) -> Result<u64, OutOfMemory>
-    requires { Settled (text_of w.now.globals.now.index) order.now }
-    ensures { IfOk result (λ n. n ≡ peaks.peak_by w.now.variable w.now.array (value_by w.now) w.now.worth (text_of w.now.globals.now.index) first) }
+    requires { SettlesTallies (indexed_text w.now.globals.now.index) order.now }
+    ensures { IfOk result (λ n. n ≡ peaks.peak_by w.now.variable w.now.array (value_by w.now) w.now.worth (indexed_text w.now.globals.now.index) first) }
 {
     let table = table_of(alloc, w, order)?;
     Ok(started(0, known_of(&table, first)).peak)
@@ -80,8 +80,8 @@ fn peak_with(
     first: u32,
     global: &Declared,
 ) -> Result<u64, OutOfMemory>
-    requires { Settled (text_of w.now.globals.now.index) order.now }
-    ensures { IfOk result (λ n. n ≡ peaks.peak_of (value_by w.now) (text_of w.now.globals.now.index) first
+    requires { SettlesTallies (indexed_text w.now.globals.now.index) order.now }
+    ensures { IfOk result (λ n. n ≡ peaks.peak_of (value_by w.now) (indexed_text w.now.globals.now.index) first
         (plain_global global.now)) }
 {
     match global.combine {
@@ -107,8 +107,8 @@ fn peaks_with(
     first: u32,
     globals: &[&Declared],
 ) -> Result<u64, OutOfMemory>
-    requires { Settled (text_of w.now.globals.now.index) order.now }
-    ensures { IfOk result (λ n. n ≡ peaks.peak_over (value_by w.now) (text_of w.now.globals.now.index) first (globals_of globals.now)) }
+    requires { SettlesTallies (indexed_text w.now.globals.now.index) order.now }
+    ensures { IfOk result (λ n. n ≡ peaks.peak_over (value_by w.now) (indexed_text w.now.globals.now.index) first (globals_of globals.now)) }
 {
     let mut most: u64 = 0;
     for global in globals {
@@ -129,11 +129,11 @@ pub fn most_words(
     values: &[u64],
     first: u32,
 ) -> Result<u64, OutOfMemory>
-    requires free { (f : ℕ) → Leads (callees_of (text_of globals.now.index)) f f → ⊥ }
-    requires faultless { Faultless (text_of globals.now.index) names.now }
-    requires first { first ≡ main_id (text_of globals.now.index) names.now }
-    requires variables { globals_of variables.now ≡ variable_items (text_of globals.now.index) }
-    ensures { IfOk result (λ n. n ≡ min (peaks.most_words (of.value_at values.now) (kernel_of (text_of globals.now.index) names.now)) (2 ^ 64 - 1)) }
+    requires free { (f : ℕ) → Leads (callees_of (indexed_text globals.now.index)) f f → ⊥ }
+    requires faultless { Faultless (indexed_text globals.now.index) names.now }
+    requires first { first ≡ main_id (indexed_text globals.now.index) names.now }
+    requires variables { globals_of variables.now ≡ variable_items (indexed_text globals.now.index) }
+    ensures { IfOk result (λ n. n ≡ min (peaks.most_words (of.table_value values.now) (kernel_of (indexed_text globals.now.index) names.now)) (2 ^ 64 - 1)) }
 {
     let calls = read_calls(alloc, &globals.index)?;
     let order = order(alloc, &calls.functions, &calls.lists)?;

@@ -31,7 +31,7 @@ pub struct Weights<'a> {
 
 /// What a text of no statement brings.
 pub fn nothing() -> Tally
-    ensures { result ≡ of.nothing }
+    ensures { result ≡ of.no_tally }
 {
     Tally {
         named: false,
@@ -43,7 +43,7 @@ pub fn nothing() -> Tally
 
 /// What a name brings.
 pub fn naming(named: bool) -> Tally
-    ensures { result ≡ of.naming named }
+    ensures { result ≡ of.naming_tally named }
 {
     Tally {
         named,
@@ -55,7 +55,7 @@ pub fn naming(named: bool) -> Tally
 
 /// What a call of an int function of so many words brings.
 pub fn calling(words: u64) -> Tally
-    ensures { result ≡ of.calling words }
+    ensures { result ≡ of.call_tally words }
 {
     Tally {
         named: false,
@@ -79,7 +79,7 @@ pub fn taking(words: u64) -> Tally
 
 /// One text, and another.
 pub fn joined(a: Tally, b: Tally) -> Tally
-    ensures { result ≡ of.joined a b }
+    ensures { result ≡ of.both_tallies a b }
 {
     Tally {
         named: a.named || b.named,
@@ -91,7 +91,7 @@ pub fn joined(a: Tally, b: Tally) -> Tally
 
 /// A thread of its own, which has so many parameters.
 pub fn started(params: u64, a: Tally) -> Tally
-    ensures { result ≡ of.started params a }
+    ensures { result ≡ of.branch_tally params a }
 {
     let whole = add(add(params, a.words), a.calls);
     Tally {

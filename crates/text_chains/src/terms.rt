@@ -68,7 +68,7 @@ pub fn optional_term(w: &Weights<'_>, hidden: bool, e: &Option<Expr>) -> Tally
 
 /// What an assignment writes to.
 pub fn target(w: &Weights<'_>, hidden: bool, t: &Target) -> Tally
-    ensures { result ≡ of.of_target w.now.variable w.now.array (value_by w.now) hidden (plain.written t.now) }
+    ensures { result ≡ of.of_target w.now.variable w.now.array (value_by w.now) hidden (plain.written_target t.now) }
 {
     match &t.index {
         None => naming(names_alone(w, hidden, t.name.id)),

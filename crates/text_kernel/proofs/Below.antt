@@ -3,7 +3,7 @@ use Rattle.std.proofs.Common.{ℕ, zero, suc, ◌+◌, ◌<◌, ◌≤◌, ◌�
 use Rattle.forec_tree.specs.declared.tree.Name.{Name}
 use Rattle.forec_tree.specs.declared.uses.How.TheVariants.{Runs, Starts}
 use Rattle.forec_tree.specs.Terms.{count_terms, Statement, Declare, Nothing, Group, Assign, Invoke, If, While, For, Pause, Par, Abort, Return, Statements, no_statements, more_statements, Perhaps, absent, present, Branches, no_branches, by_call, by_group, Text, PlainFunction}
-use Rattle.forec_tree.specs.Scopes.{Scope, no_scope, entered, after, after_perhaps, with_params, find_item, find_last, meaning}
+use Rattle.forec_tree.specs.Scopes.{Scope, no_scope, inner_scope, after, after_perhaps, with_params, find_item, find_last, meaning}
 use Rattle.forec_tree.specs.Findings.{Closes, in_bound, in_term, in_terms, in_optional, in_statement, in_statements, in_perhaps, in_branches, in_params}
 use Rattle.forec_tree.specs.Faults.{in_function}
 use Rattle.forec_tree.specs.Rules.{Judging, use_faults, findings_faults}
@@ -13,7 +13,7 @@ use Rattle.forec_kernel.specs.WellFormed.{FineStmt}
 use Rattle.text_kernel.specs.declared.names.Slot.{Slot}
 use Rattle.text_kernel.specs.Bindings.{params_at}
 use Rattle.text_kernel.specs.Lowering as low
-use Rattle.text_kernel.specs.Lowering.{sequence, lower_statement, lower_list, lower_perhaps, lower_branches, scope_after, scope_after_perhaps, par_after, params_of, NextNumbers, Made, Lowered, Inlined, inlined_body, inlined_step, nothing_inlined}
+use Rattle.text_kernel.specs.Lowering.{sequence, lower_statement, lower_list, lower_perhaps, lower_branches, scope_after, scope_after_perhaps, par_after, param_names, NextNumbers, Made, Lowered, Inlined, inlined_body, inlined_step, nothing_inlined}
 use Rattle.text_kernel.proofs.Fine.{none_left, none_right, parts_left, parts_right, good_use, Knows}
 use Rattle.text_kernel.proofs.FineStatements.{sequence_fine}
 use Rattle.text_kernel.proofs.Grown.{made_of, inlined_grows, grows, list_grows, perhaps_grows}
@@ -43,7 +43,7 @@ all_more : (k : PlainKernel) (uses : List ℕ) (made : Made) (a : List Made) →
 all_more k uses made a f h zero l = f
 all_more k uses made a f h (suc i) l = h i (omega arith)
 
-param_count : (n : ℕ) (o : Option PlainFunction) → ((f : PlainFunction) → o ≡ Some f → Runnable n f) → length (params_of o) ≤ n
+param_count : (n : ℕ) (o : Option PlainFunction) → ((f : PlainFunction) → o ≡ Some f → Runnable n f) → length (param_names o) ≤ n
 param_count n None u = omega arith
 param_count n (Some f) u = let r = u f refl in let e = r.params in omega arith
 
@@ -67,9 +67,9 @@ module _ (text : Text) (k : PlainKernel) (uses : List ℕ) (names : List (List �
     start_of sc name n h = startable false n (find_last name.id None (sc.outer ++ sc.here)) (find_item name.id text) (good_use judging (Starts n) name (meaning text sc name.id) h)
 
     -- a branch, before the threads below it
-    branch_fine : (t q : ℕ) (n : NextNumbers) (name : Option ℕ) (params : ℕ) (b : Lowered) → Sits k n.thread (low.thread_of t q name params b) → params ≤ b.next.slot →
+    branch_fine : (t q : ℕ) (n : NextNumbers) (name : Option ℕ) (params : ℕ) (b : Lowered) → Sits k n.thread (low.made_thread t q name params b) → params ≤ b.next.slot →
         (Sits k (suc n.thread) b.made → FineStmt false (record { kernel = k; words = b.next.slot; uses = uses }) b.stmt) → (Sits k (suc n.thread) b.made → AllFine k uses b.made) →
-        AllFine k uses (low.thread_of t q name params b)
+        AllFine k uses (low.made_thread t q name params b)
     branch_fine t q n name params b z l f g =
         let inner = sits_right k n.thread (suc n.thread) (made_of t q name params b ∷ []) b.made (omega arith) z in
         all_more k uses (made_of t q name params b) b.made (record { params = l; body = f inner }) (g inner)
@@ -78,25 +78,25 @@ module _ (text : Text) (k : PlainKernel) (uses : List ℕ) (names : List (List �
       made_fine : (t : ℕ) (s : List Slot) (n : NextNumbers) (sc : Scope) (a : Statement) → findings_faults judging (in_statement text sc a) ≡ [] →
           Sits k n.thread (lower_statement text called t s n a).made → AllFine k uses (lower_statement text called t s n a).made
       made_fine t s n sc (Nothing at) h z = none_fine k uses
-      made_fine t s n sc (Group at body) h z = list_made t s n (entered sc) body h z
+      made_fine t s n sc (Group at body) h z = list_made t s n (inner_scope sc) body h z
       made_fine t s n sc (Declare at locals) h z = none_fine k uses
       made_fine t s n sc (Assign at target op value) h z = none_fine k uses
       made_fine t s n sc (Invoke at name args) h z =
           deeper t (count_terms args) n.slot name.id (record { slot = n.slot + count_terms args; thread = n.thread; par = n.par })
           (run_of sc name (count_terms args) (none_left (use_faults judging (Runs (count_terms args)) name (meaning text sc name.id)) (findings_faults judging (in_terms text sc args)) h)) z
       made_fine t s n sc (If at test a b) h z =
-          let r = parts_right judging (in_term text sc test) (in_statement text (entered sc) a ++ in_perhaps text (entered sc) b) h in
+          let r = parts_right judging (in_term text sc test) (in_statement text (inner_scope sc) a ++ in_perhaps text (inner_scope sc) b) h in
           let one = lower_statement text called t s n a in
           let two = lower_perhaps text called t s one.next b in
           let long = threads_grow (grows text called (inlined_grows text deep) t s n a).grown in
           all_append k uses one.made two.made
-          (made_fine t s n (entered sc) a (parts_left judging (in_statement text (entered sc) a) (in_perhaps text (entered sc) b) r) (sits_left k n.thread one.made two.made z))
-          (perhaps_made t s one.next (entered sc) b (parts_right judging (in_statement text (entered sc) a) (in_perhaps text (entered sc) b) r) (sits_right k n.thread one.next.thread one.made two.made long z))
+          (made_fine t s n (inner_scope sc) a (parts_left judging (in_statement text (inner_scope sc) a) (in_perhaps text (inner_scope sc) b) r) (sits_left k n.thread one.made two.made z))
+          (perhaps_made t s one.next (inner_scope sc) b (parts_right judging (in_statement text (inner_scope sc) a) (in_perhaps text (inner_scope sc) b) r) (sits_right k n.thread one.next.thread one.made two.made long z))
       made_fine t s n sc (While at test bound body) h z =
-          let r = parts_right judging (in_bound bound) (in_term text sc test ++ in_statement text (entered sc) body) h in
-          made_fine t s n (entered sc) body (parts_right judging (in_term text sc test) (in_statement text (entered sc) body) r) z
+          let r = parts_right judging (in_bound bound) (in_term text sc test ++ in_statement text (inner_scope sc) body) h in
+          made_fine t s n (inner_scope sc) body (parts_right judging (in_term text sc test) (in_statement text (inner_scope sc) body) r) z
       made_fine t s n sc (For at start test step bound body) h z =
-          let sc1 = entered sc in
+          let sc1 = inner_scope sc in
           let sc2 = after_perhaps sc1 start in
           let sc3 = after_perhaps sc2 step in
           let s2 = scope_after_perhaps text s n.slot start in
@@ -104,7 +104,7 @@ module _ (text : Text) (k : PlainKernel) (uses : List ℕ) (names : List (List �
           let d = lower_perhaps text called t s2 i.next step in
           let s3 = scope_after_perhaps text s2 i.next.slot step in
           let last = lower_statement text called t s3 d.next body in
-          let r4 = in_perhaps text sc2 step ++ in_statement text (entered sc3) body in
+          let r4 = in_perhaps text sc2 step ++ in_statement text (inner_scope sc3) body in
           let r3 = in_optional text sc2 test ++ r4 in
           let r2 = in_perhaps text sc1 start ++ r3 in
           let h2 = parts_right judging (in_bound bound) r2 h in
@@ -115,12 +115,12 @@ module _ (text : Text) (k : PlainKernel) (uses : List ℕ) (names : List (List �
           all_append k uses i.made (d.made ++ last.made)
           (perhaps_made t s n sc1 start (parts_left judging (in_perhaps text sc1 start) r3 h2) (sits_left k n.thread i.made (d.made ++ last.made) z))
           (all_append k uses d.made last.made
-          (perhaps_made t s2 i.next sc2 step (parts_left judging (in_perhaps text sc2 step) (in_statement text (entered sc3) body) h4) (sits_left k i.next.thread d.made last.made z2))
-          (made_fine t s3 d.next (entered sc3) body (parts_right judging (in_perhaps text sc2 step) (in_statement text (entered sc3) body) h4) (sits_right k i.next.thread d.next.thread d.made last.made long_d z2)))
+          (perhaps_made t s2 i.next sc2 step (parts_left judging (in_perhaps text sc2 step) (in_statement text (inner_scope sc3) body) h4) (sits_left k i.next.thread d.made last.made z2))
+          (made_fine t s3 d.next (inner_scope sc3) body (parts_right judging (in_perhaps text sc2 step) (in_statement text (inner_scope sc3) body) h4) (sits_right k i.next.thread d.next.thread d.made last.made long_d z2)))
       made_fine t s n sc (Pause at) h z = none_fine k uses
       made_fine t s n sc (Par at bs) h z = branches_made t s n.par (record { slot = n.slot; thread = n.thread; par = par_after bs n.par }) sc bs h z
       made_fine t s n sc (Abort at weak immediate test body) h z =
-          list_made t s n (entered sc) body (parts_right judging (in_term text sc test) (in_statements text (entered sc) body) h) z
+          list_made t s n (inner_scope sc) body (parts_right judging (in_term text sc test) (in_statements text (inner_scope sc) body) h) z
       made_fine t s n sc (Return at value) h z = none_fine k uses
 
       pub list_made : (t : ℕ) (s : List Slot) (n : NextNumbers) (sc : Scope) (a : Statements) → findings_faults judging (in_statements text sc a) ≡ [] →
@@ -150,8 +150,8 @@ module _ (text : Text) (k : PlainKernel) (uses : List ℕ) (names : List (List �
           let own = use_faults judging (Starts (count_terms args)) name (meaning text sc name.id) in
           let u = start_of sc name (count_terms args) (none_left own (findings_faults judging (in_terms text sc args ++ in_branches text sc rest)) h) in
           let h1 = none_right own (findings_faults judging (in_terms text sc args ++ in_branches text sc rest)) h in
-          let params = length (params_of (find_function name.id text)) in
-          let first = low.thread_of t q (Some name.id) params b in
+          let params = length (param_names (find_function name.id text)) in
+          let first = low.made_thread t q (Some name.id) params b in
           let others = (lower_branches text called t s q next rest).made in
           let long = threads_grow (inlined_grows text deep name.id 0 n.thread inside).grown in
           let up = place_rises text deep name.id 0 n.thread inside in
@@ -168,7 +168,7 @@ module _ (text : Text) (k : PlainKernel) (uses : List ℕ) (names : List (List �
           let next : NextNumbers = record { slot = n.slot; thread = l.next.thread; par = l.next.par } in
           let hb = parts_left judging (in_statements text no_scope body) (Closes ∷ in_branches text sc rest) h in
           let hr = parts_right judging (in_statements text no_scope body) (Closes ∷ in_branches text sc rest) h in
-          let first = low.thread_of t q None 0 b in
+          let first = low.made_thread t q None 0 b in
           let others = (lower_branches text called t s q next rest).made in
           let long = threads_grow (list_grows text called (inlined_grows text deep) n.thread [] inside body).grown in
           all_append k uses first others

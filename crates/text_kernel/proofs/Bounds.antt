@@ -5,7 +5,7 @@ use Rattle.forec_tree.specs.declared.tree.Number.{Number}
 use Rattle.forec_tree.specs.Terms.{Term, Statement, For, Perhaps, Text}
 use Rattle.forec_tree.specs.Findings.{in_bound}
 use Rattle.forec_tree.specs.Rules.{Judging, outside, fault_if, findings_faults}
-use Rattle.forec_tree.specs.Turns.{run_of, is_i32, inferred, turns_from, fits_form, signed_step, Pair, Test, PlainLoopStep, start_of, test_of, step_of}
+use Rattle.forec_tree.specs.Turns.{values_passed, is_i32, inferred, turns_by_parts, fits_form, signed_step, VariableNumber, Test, PlainLoopStep, start_of, test_of, step_of}
 use Rattle.forec_kernel.specs.WellFormed.{FineBound}
 use Rattle.text_kernel.specs.Lowering.{bound_of, or_inferred}
 use Rattle.text_kernel.proofs.Fine.{none_left, not_broken}
@@ -19,29 +19,29 @@ more_turns None left h n e = cc
 more_turns (Some m) left h n e = let g = h m refl in let same : suc m ≡ n = cc in omega (arith, g, same)
 
 -- a run looks at `left` values, and the last one fails
-run_short : (left : ℕ) (passes : ℤ → Bool) (step v : ℤ) → AtMost left (run_of (suc left) passes step v)
-unfolding run_of
+run_short : (left : ℕ) (passes : ℤ → Bool) (step v : ℤ) → AtMost left (values_passed (suc left) passes step v)
+unfolding values_passed
 run_short zero passes step v = pick (is_i32 v) (passes v)
   where
     pick : (a b : Bool) → AtMost 0 (cond a (cond b None (Some 0)) None)
     pick true true n e = cc
     pick true false n e = let same : 0 ≡ n = cc in omega (arith, same)
     pick false b n e = cc
-run_short (suc left) passes step v = pick (is_i32 v) (passes v) (more_turns (run_of (suc left) passes step (v +ℤ step)) left (run_short left passes step (v +ℤ step)))
+run_short (suc left) passes step v = pick (is_i32 v) (passes v) (more_turns (values_passed (suc left) passes step (v +ℤ step)) left (run_short left passes step (v +ℤ step)))
   where
-    pick : (a b : Bool) → AtMost (suc left) (elim (run_of (suc left) passes step (v +ℤ step)) [ None ↦ None | Some n ↦ Some (suc n) ]) →
-        AtMost (suc left) (cond a (cond b (elim (run_of (suc left) passes step (v +ℤ step)) [ None ↦ None | Some n ↦ Some (suc n) ]) (Some 0)) None)
+    pick : (a b : Bool) → AtMost (suc left) (elim (values_passed (suc left) passes step (v +ℤ step)) [ None ↦ None | Some n ↦ Some (suc n) ]) →
+        AtMost (suc left) (cond a (cond b (elim (values_passed (suc left) passes step (v +ℤ step)) [ None ↦ None | Some n ↦ Some (suc n) ]) (Some 0)) None)
     pick true true h n e = h n e
     pick true false h n e = let same : 0 ≡ n = cc in omega (arith, same)
     pick false b h n e = cc
 
-turns_short : (text : Text) (body : Statement) (a : Option Pair) (t : Option Test) (s : Option PlainLoopStep) → AtMost 1000000 (turns_from text body a t s)
+turns_short : (text : Text) (body : Statement) (a : Option VariableNumber) (t : Option Test) (s : Option PlainLoopStep) → AtMost 1000000 (turns_by_parts text body a t s)
 turns_short text body None t s n e = cc
 turns_short text body (Some a) None s n e = cc
 turns_short text body (Some a) (Some t) None n e = cc
 turns_short text body (Some a) (Some t) (Some s) n e = pick (fits_form text body a t s) n e
   where
-    pick : (b : Bool) → AtMost 1000000 (cond b (run_of 1000001 t.passes (signed_step s) a.number) None)
+    pick : (b : Bool) → AtMost 1000000 (cond b (values_passed 1000001 t.passes (signed_step s) a.number) None)
     pick true m d = run_short 1000000 t.passes (signed_step s) a.number m d
     pick false m d = cc
 

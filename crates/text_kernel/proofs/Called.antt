@@ -10,10 +10,10 @@ use Rattle.forec_tree.specs.declared.uses.Meaning.{Meaning}
 use Rattle.forec_tree.specs.declared.uses.Meaning.TheVariants as means
 use Rattle.forec_tree.specs.declared.uses.How.TheVariants.{Reads, Indexes, Writes, WritesAt, Computes, Runs, Starts}
 use Rattle.forec_tree.specs.Terms.{Term, Num, Read, Element, Un, Bin, And, Or, Choose, Call, Terms, no_terms, more_terms, count_terms, Declared, Statement, Declare, Nothing, Group, Assign, Invoke, If, While, For, Pause, Par, Abort, Return, Statements, no_statements, more_statements, Perhaps, absent, present, Text, PlainItem, PlainFunction, IsGlobal, IsFunction}
-use Rattle.forec_tree.specs.Scopes.{Scope, no_scope, entered, after, after_perhaps, with_name, with_params, is_among, is_array, find_item, find_last, local_meaning, item_meaning, meaning}
+use Rattle.forec_tree.specs.Scopes.{Scope, no_scope, inner_scope, after, after_perhaps, with_name, with_params, is_among, is_array, find_item, find_last, local_meaning, item_meaning, meaning}
 use Rattle.forec_tree.specs.Findings.{Finding, Use, Declares, Bound, Loop, Synchronous, Gives, Opens, Closes, use_at, in_bound, in_term, in_terms, in_optional, in_locals, in_target, in_statement, in_statements, in_perhaps, in_branches, in_params}
 use Rattle.forec_tree.specs.Rules.{Judging, fault_if, use_faults, findings_faults}
-use Rattle.forec_tree.specs.Faults.{Member, in_function, calls_of, called_in, is_in}
+use Rattle.forec_tree.specs.Faults.{Member, in_function, functions_called, called_in, is_in}
 use Rattle.forec_kernel.specs.Terms as kernel
 use Rattle.forec_kernel.specs.Terms.{Expr, Exprs, Stmt, Stmts, no_stmts, more_stmts}
 use Rattle.forec_kernel.specs.Combining.{contains}
@@ -22,8 +22,8 @@ use Rattle.forec_kernel.specs.WellFormed.{calls_in, stmt_calls, stmts_calls, fun
 use Rattle.text_kernel.specs.declared.names.Slot.{Slot}
 use Rattle.text_kernel.specs.declared.names.Stands.{Stands}
 use Rattle.text_kernel.specs.declared.names.Stands.TheVariants as st
-use Rattle.text_kernel.specs.Bindings.{with_locals, params_at, slots_of, number_of, number_among, is_int_function}
-use Rattle.text_kernel.specs.Lowering.{NextNumbers, stands, read_as, element_as, lower_term, lower_terms, sequence, ends_with, operated, assign_to, assign_at, array_values, lower_local, lower_locals, set_params, optional_test, lower_target, lower_statement, lower_list, lower_perhaps, scope_after, scope_after_perhaps, after_start, then_step}
+use Rattle.text_kernel.specs.Bindings.{with_local_slots, params_at, slots_of, number_of, number_among, is_int_function}
+use Rattle.text_kernel.specs.Lowering.{NextNumbers, stands, read_as, element_as, lower_term, lower_terms, sequence, ends_with, operated_expr, assign_to, assign_at, array_values, lower_local, lower_locals, set_params, optional_test, lower_target, lower_statement, lower_list, lower_perhaps, scope_after, scope_after_perhaps, after_start, then_step}
 use Rattle.text_kernel.specs.Kernels as kernels
 use Rattle.text_kernel.specs.Kernels.{kernel_of, int_functions}
 use Rattle.text_kernel.proofs.Fine.{none_left, none_right, not_broken, parts_left, parts_right, GoodUse, good_use}
@@ -213,7 +213,7 @@ module _ (text : Text) where
     ends_calls no_stmts = refl
     ends_calls (more_stmts b rest) = ap (λ l. stmt_calls b ++ l) (ends_calls rest)
 
-    operated_named : (fs : List Finding) (op : Option OpAt) (old value : Expr) → AllNamed text fs (wf.calls_of old) → AllNamed text fs (wf.calls_of value) → AllNamed text fs (wf.calls_of (operated op old value))
+    operated_named : (fs : List Finding) (op : Option OpAt) (old value : Expr) → AllNamed text fs (wf.calls_of old) → AllNamed text fs (wf.calls_of value) → AllNamed text fs (wf.calls_of (operated_expr op old value))
     operated_named fs None old value h g = g
     operated_named fs (Some o) old value h g = both_named fs (wf.calls_of old) (wf.calls_of value) h g
 
@@ -272,9 +272,9 @@ module _ (text : Text) where
         let own = Declares d.name (is_among d.name.id sc.here) d.length (count_terms d.values) ∷ [] in
         let first = own ++ in_terms text sc d.values in
         let more = in_locals text (with_name sc d.name.id (is_array d.length)) rest in
-        parts_named first more (stmt_calls (lower_local text s slot d)) (stmts_calls (lower_locals text (with_locals s slot (d ∷ [])) (slot + slots_of d.length) rest))
+        parts_named first more (stmt_calls (lower_local text s slot d)) (stmts_calls (lower_locals text (with_local_slots s slot (d ∷ [])) (slot + slots_of d.length) rest))
         (right_named own (in_terms text sc d.values) _ (local_named sc s slot d.name d.length d.values (parts_right j own (in_terms text sc d.values) (parts_left j first more h))))
-        (locals_named (with_name sc d.name.id (is_array d.length)) (with_locals s slot (d ∷ [])) (slot + slots_of d.length) rest (parts_right j first more h))
+        (locals_named (with_name sc d.name.id (is_array d.length)) (with_local_slots s slot (d ∷ [])) (slot + slots_of d.length) rest (parts_right j first more h))
 
     sets_named : (sc : Scope) (s : List Slot) (slot : ℕ) (es : Terms) → findings_faults j (in_terms text sc es) ≡ [] → AllNamed text (in_terms text sc es) (stmts_calls (set_params text s slot es))
     sets_named sc s slot no_terms h = none_named []
@@ -304,7 +304,7 @@ module _ (text : Text) where
           AllNamed text (in_statement text sc a) (stmt_calls (lower_statement text nothing t s n a).stmt)
       statement_named t s n sc (Nothing at) h = none_named []
       statement_named t s n sc (Group at body) h =
-          moved_named (in_statements text (entered sc) body) _ _ (sequence_calls (lower_list text nothing t s n body).list) (list_named t s n (entered sc) body h)
+          moved_named (in_statements text (inner_scope sc) body) _ _ (sequence_calls (lower_list text nothing t s n body).list) (list_named t s n (inner_scope sc) body h)
       statement_named t s n sc (Declare at locals) h =
           moved_named (in_locals text sc locals) _ _ (sequence_calls (lower_locals text s n.slot locals)) (locals_named sc s n.slot locals h)
       statement_named t s n sc (Assign at target op value) h = target_named sc s target.name target.index op value h
@@ -316,23 +316,23 @@ module _ (text : Text) where
       statement_named t s n sc (If at test a b) h =
           let one = lower_statement text nothing t s n a in
           let two = lower_perhaps text nothing t s one.next b in
-          let fa = in_statement text (entered sc) a in
-          let fb = in_perhaps text (entered sc) b in
+          let fa = in_statement text (inner_scope sc) a in
+          let fb = in_perhaps text (inner_scope sc) b in
           let r = parts_right j (in_term text sc test) (fa ++ fb) h in
           moved_named (in_term text sc test ++ (fa ++ fb)) (wf.calls_of (lower_term text s test) ++ (stmt_calls one.stmt ++ stmt_calls two.stmt)) _
           (append_assoc (wf.calls_of (lower_term text s test)) (stmt_calls one.stmt) (stmt_calls two.stmt))
           (parts_named (in_term text sc test) (fa ++ fb) _ _ (term_named sc s test (parts_left j (in_term text sc test) (fa ++ fb) h))
-          (parts_named fa fb _ _ (statement_named t s n (entered sc) a (parts_left j fa fb r)) (perhaps_named t s one.next (entered sc) b (parts_right j fa fb r))))
+          (parts_named fa fb _ _ (statement_named t s n (inner_scope sc) a (parts_left j fa fb r)) (perhaps_named t s one.next (inner_scope sc) b (parts_right j fa fb r))))
       statement_named t s n sc (While at test bound body) h =
           let head = Loop (While at test bound body) ∷ in_bound bound in
           let ft = in_term text sc test in
-          let fb = in_statement text (entered sc) body in
+          let fb = in_statement text (inner_scope sc) body in
           let h1 = parts_right j (in_bound bound) (ft ++ fb) h in
           right_named (Loop (While at test bound body) ∷ []) (in_bound bound ++ (ft ++ fb)) _
           (right_named (in_bound bound) (ft ++ fb) _
-          (parts_named ft fb _ _ (term_named sc s test (parts_left j ft fb h1)) (statement_named t s n (entered sc) body (parts_right j ft fb h1))))
+          (parts_named ft fb _ _ (term_named sc s test (parts_left j ft fb h1)) (statement_named t s n (inner_scope sc) body (parts_right j ft fb h1))))
       statement_named t s n sc (For at start test step bound body) h =
-          let sc1 = entered sc in
+          let sc1 = inner_scope sc in
           let sc2 = after_perhaps sc1 start in
           let sc3 = after_perhaps sc2 step in
           let s2 = scope_after_perhaps text s n.slot start in
@@ -343,7 +343,7 @@ module _ (text : Text) where
           let f1 = in_perhaps text sc1 start in
           let f2 = in_optional text sc2 test in
           let f3 = in_perhaps text sc2 step in
-          let f4 = in_statement text (entered sc3) body in
+          let f4 = in_statement text (inner_scope sc3) body in
           let h1 = parts_right j (in_bound bound) (f1 ++ (f2 ++ (f3 ++ f4))) h in
           let h2 = parts_right j f1 (f2 ++ (f3 ++ f4)) h1 in
           let h3 = parts_right j f2 (f3 ++ f4) h2 in
@@ -355,11 +355,11 @@ module _ (text : Text) where
           (parts_named f1 (f2 ++ (f3 ++ f4)) _ _ (perhaps_named t s n sc1 start (parts_left j f1 (f2 ++ (f3 ++ f4)) h1))
           (parts_named f2 (f3 ++ f4) _ _ (optional_named sc2 s2 test (parts_left j f2 (f3 ++ f4) h2))
           (both_named (f3 ++ f4) (stmt_calls last.stmt) (stmt_calls d.stmt)
-          (right_named f3 f4 _ (statement_named t s3 d.next (entered sc3) body (parts_right j f3 f4 h3)))
+          (right_named f3 f4 _ (statement_named t s3 d.next (inner_scope sc3) body (parts_right j f3 f4 h3)))
           (left_named f3 f4 _ (perhaps_named t s2 i.next sc2 step (parts_left j f3 f4 h3))))))))
       statement_named t s n sc (Pause at) h = no_pause at [] h
       statement_named t s n sc (Par at bs) h = no_pause at (in_branches text sc bs) h
-      statement_named t s n sc (Abort at weak immediate test body) h = no_pause at (in_term text sc test ++ in_statements text (entered sc) body) h
+      statement_named t s n sc (Abort at weak immediate test body) h = no_pause at (in_term text sc test ++ in_statements text (inner_scope sc) body) h
       statement_named t s n sc (Return at value) h =
           right_named (Gives at ∷ []) (in_term text sc value) _ (term_named sc s value (parts_right j (Gives at ∷ []) (in_term text sc value) h))
 
@@ -393,7 +393,7 @@ id_stands (IsFunction h ∷ xs) f (Rattle.forec_tree.specs.Faults.later p) =
     let r = id_stands xs f p in elim (h.name.id == f.name.id) as (λ b. cond b true (is_in f.name.id (function_ids xs)) ≡ true) [ true ↦ refl | false ↦ r ]
 
 module _ (text : Text) (names : List (List ℕ)) (clean : Clean text names) where
-  body_named : (f : PlainFunction) → Member (IsFunction f) text → f.gives ≡ true → AllNamed text (in_function text f) (stmt_calls (sequence (kernels.function_body text names f).list))
+  body_named : (f : PlainFunction) → Member (IsFunction f) text → f.gives ≡ true → AllNamed text (in_function text f) (stmt_calls (sequence (kernels.lowered_function_body text names f).list))
   body_named f m g =
       let j : Judging = record { names = names; gives = true } in
       let c = function_of text names clean f m in
@@ -402,11 +402,11 @@ module _ (text : Text) (names : List (List ℕ)) (clean : Clean text names) wher
       let body = in_statements text inside f.body in
       let rules : findings_faults j (params ++ body) ≡ [] = subst (λ b. findings_faults (record { names = names; gives = b }) (in_function text f) ≡ []) g c.findings in
       right_named text params body _
-      (moved_named text body _ _ (sequence_calls text j refl (kernels.function_body text names f).list)
+      (moved_named text body _ _ (sequence_calls text j refl (kernels.lowered_function_body text names f).list)
       (list_named text j refl 0 (params_at 0 f.params) (record { slot = length f.params; thread = 1; par = 0 }) inside f.body (parts_right j params body rules)))
 
   abbrev number_rank : ℕ → ℕ
-  number_rank n = rank (calls_of text) clean.free (function_ids text) (int_function text names n).name.id
+  number_rank n = rank (functions_called text) clean.free (function_ids text) (int_function text names n).name.id
 
   number_falls : (f g : ℕ) → f < length (kernel_of text names).functions → IsTrue (contains g (stmt_calls (function_body (kernel_of text names) f))) → number_rank g < number_rank f
   number_falls f g l h =
@@ -414,13 +414,13 @@ module _ (text : Text) (names : List (List ℕ)) (clean : Clean text names) wher
       let i = int_at text names text f low in
       let own = int_function text names f in
       let n = body_named own i.member i.gives g (sym (ap (λ x. contains g (stmt_calls x)) (body_of_function text names f low)) ∙ h) in
-      let calls : calls_of text own.name.id ≡ called_in (in_function text own) = ap (λ x. Rattle.forec_tree.specs.Faults.item_calls text x) (own_item text names clean (IsFunction own) i.member) in
+      let calls : functions_called text own.name.id ≡ called_in (in_function text own) = ap (λ x. Rattle.forec_tree.specs.Faults.item_calls text x) (own_item text names clean (IsFunction own) i.member) in
       let to = first_of n.id (IsFunction n.function) text n.found in
       let same : int_function text names g ≡ n.function =
       ap (int_function text names) n.is ∙ function_at text names n.id n.function text (blank_function text names) to n.gives in
       let id : (int_function text names g).name.id ≡ n.id = ap (λ (x : PlainFunction). x.name.id) same ∙ first_id n.id (IsFunction n.function) text to in
-      subst (λ m. rank (calls_of text) clean.free (function_ids text) m < number_rank f) (sym id)
-      (rank_along (calls_of text) clean.free (function_ids text) own.name.id n.id (id_stands text own i.member) (ap (is_in n.id) calls ∙ n.called))
+      subst (λ m. rank (functions_called text) clean.free (function_ids text) m < number_rank f) (sym id)
+      (rank_along (functions_called text) clean.free (function_ids text) own.name.id n.id (id_stands text own i.member) (ap (is_in n.id) calls ∙ n.called))
 
   pub ranked : Ranked (kernel_of text names)
   ranked = record { rank = number_rank; falls = number_falls }

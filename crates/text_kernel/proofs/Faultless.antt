@@ -6,8 +6,8 @@ use Rattle.forec_tree.specs.declared.fault.Fault.{Fault}
 use Rattle.forec_tree.specs.Terms.{Text, PlainItem, PlainFunction, IsGlobal, IsFunction}
 use Rattle.forec_tree.specs.Scopes.{name_of, find_item}
 use Rattle.forec_tree.specs.Pauses.{find_function}
-use Rattle.forec_tree.specs.Rules.{fault_if, is_none, is_long, some_returns, findings_faults, loop_faults}
-use Rattle.forec_tree.specs.Faults.{in_function, calls_of, Leads, Before, none_before, after_item, item_named, is_start, start_name, main_place, main_faults, function_faults, item_faults, items_faults, text_faults, late_item_faults, late_faults, Member, here, later}
+use Rattle.forec_tree.specs.Rules.{fault_if, is_none, is_long, some_always_returns, findings_faults, loop_faults}
+use Rattle.forec_tree.specs.Faults.{in_function, functions_called, Leads, Before, none_before, after_item, item_named, is_start, start_name, main_place, main_faults, function_faults, item_faults, items_faults, text_faults, late_item_faults, late_faults, Member, here, later}
 use Rattle.forec_check.specs.Faultless.{Faultless}
 use Rattle.forec_check.proofs.Acyclic.{no_reach}
 use Rattle.text_kernel.specs.Kernels.{main_id}
@@ -17,7 +17,7 @@ use Rattle.text_kernel.proofs.Fine.{none_left, none_right, not_broken}
 pub record Clean (text : Text) (names : List (List ℕ)) : Type 0 where
   pub start : main_faults text names ≡ []
   pub items : items_faults text names none_before text ≡ []
-  pub free : (f : ℕ) → Leads (calls_of text) f f → ⊥
+  pub free : (f : ℕ) → Leads (functions_called text) f f → ⊥
   pub late : late_faults text names text ≡ []
 
 no_members : (fs : List Fault) → ((f : Fault) → Member f fs → ⊥) → fs ≡ []
@@ -49,7 +49,7 @@ item_clean text names b (x ∷ xs) i h (later p) =
 -- what a function of such a program keeps
 pub record FunctionClean (text : Text) (names : List (List ℕ)) (f : PlainFunction) : Type 0 where
   pub few : length f.params ≤ 16
-  pub returns : f.gives ≡ true → some_returns f.body ≡ true
+  pub returns : f.gives ≡ true → some_always_returns f.body ≡ true
   pub findings : findings_faults (record { names = names; gives = f.gives }) (in_function text f) ≡ []
 
 returning : (a b : Bool) → (a && not b) ≡ false → a ≡ true → b ≡ true
@@ -66,8 +66,8 @@ function_clean text names b f h =
     let e : nat_lt 16 (length f.params) ≡ false = not_broken (nat_lt 16 (length f.params)) f.name.place 23 (none_left (fault_if (nat_lt 16 (length f.params)) f.name.place 23) _ h2) in
     record {
       few = grind (arith, nat_tests);
-      returns = returning f.gives (some_returns f.body) (not_broken (f.gives && not (some_returns f.body)) f.name.place 15 (none_left (fault_if (f.gives && not (some_returns f.body)) f.name.place 15) _ h4));
-      findings = none_right (fault_if (f.gives && not (some_returns f.body)) f.name.place 15) _ h4;
+      returns = returning f.gives (some_always_returns f.body) (not_broken (f.gives && not (some_always_returns f.body)) f.name.place 15 (none_left (fault_if (f.gives && not (some_always_returns f.body)) f.name.place 15) _ h4));
+      findings = none_right (fault_if (f.gives && not (some_always_returns f.body)) f.name.place 15) _ h4;
     }
 
 pub late_clean : (text : Text) (names : List (List ℕ)) (xs : List PlainItem) (i : PlainItem) → late_faults text names xs ≡ [] → Member i xs → late_item_faults text names i ≡ []

@@ -200,7 +200,7 @@ module _ (text : Text) (names : List (List ℕ)) where
     pub few_functions : length (kernel_of text names).functions ≤ 1024
     unfolding kernel_of
     few_functions =
-        let e = length-map (int_functions text names text) (λ f. Rattle.text_kernel.specs.Lowering.sequence (kernels.function_body text names f).list) in
+        let e = length-map (int_functions text names text) (λ f. Rattle.text_kernel.specs.Lowering.sequence (kernels.lowered_function_body text names f).list) in
         let l = functions_few none_before text clean.items (omega arith) in
         omega (arith, e, l)
 

@@ -13,7 +13,7 @@ use Rattle.forec_tree.specs.Terms.{Term, Num, Read, Element, Un, Bin, And, Or, C
 use Rattle.forec_tree.specs.Scopes.{Scope, find_item, find_last, is_array, stated_length, local_meaning, item_meaning, meaning}
 use Rattle.forec_tree.specs.Variables.{elements, width}
 use Rattle.forec_tree.specs.Findings.{Finding, in_term, in_terms}
-use Rattle.forec_tree.specs.Rules.{Judging, fault_if, is_constant, is_changing, is_input, is_unknown, means_kind, writes, enters_main, fits_use, arguments, miscounts, use_faults, findings_faults}
+use Rattle.forec_tree.specs.Rules.{Judging, fault_if, is_constant, is_changing, is_input, is_unknown, means_kind, writes, enters_main, fits_use, argument_count, miscounts, use_faults, findings_faults}
 use Rattle.forec_tree.specs.Faults.{Member, here, later}
 use Rattle.forec_tree.proofs.FindingFaults.{findings-append}
 use Rattle.forec_kernel.specs.Terms.{Expr, count_exprs}
@@ -51,7 +51,7 @@ pub record GoodUse (gives : Bool) (how : How) (m : Meaning) : Type 0 where
   pub known : is_unknown m ≡ false
   pub fits : fits_use how m ≡ true
   pub written : writes how ≡ true → means_kind is_constant m ≡ false
-  pub counts : miscounts (arguments how) m ≡ false
+  pub counts : miscounts (argument_count how) m ≡ false
 
 only : (a b : Bool) → a ≡ true → (a && b) ≡ false → b ≡ false
 only true b e h = h
@@ -61,8 +61,8 @@ pub good_use : (j : Judging) (how : How) (name : Name) (m : Meaning) → use_fau
 good_use j how name m h =
     let r = none_right (fault_if (is_unknown m) name.place 1) _ h in
     let q = none_right (fault_if (not (fits_use how m)) name.place 4) _ r in
-    let q5 = none_right (fault_if (miscounts (arguments how) m) name.place 5) _ q in
-    let q7 = none_right (fault_if (enters_main j.names (arguments how) m name) name.place 7) _ q5 in
+    let q5 = none_right (fault_if (miscounts (argument_count how) m) name.place 5) _ q in
+    let q7 = none_right (fault_if (enters_main j.names (argument_count how) m name) name.place 7) _ q5 in
     let q8 = none_right (fault_if (writes how && means_kind is_input m) name.place 8) _ q7 in
     let q9 = none_right (fault_if (writes how && means_kind is_constant m) name.place 9) _ q8 in
     record {
@@ -70,7 +70,7 @@ good_use j how name m h =
       written = λ w. only (writes how) (means_kind is_constant m) w (not_broken (writes how && means_kind is_constant m) name.place 9 (none_left (fault_if (writes how && means_kind is_constant m) name.place 9) _ q8));
       known = not_broken (is_unknown m) name.place 1 (none_left (fault_if (is_unknown m) name.place 1) _ h);
       fits = not_not (fits_use how m) (not_broken (not (fits_use how m)) name.place 4 (none_left (fault_if (not (fits_use how m)) name.place 4) _ r));
-      counts = not_broken (miscounts (arguments how) m) name.place 5 (none_left (fault_if (miscounts (arguments how) m) name.place 5) _ q);
+      counts = not_broken (miscounts (argument_count how) m) name.place 5 (none_left (fault_if (miscounts (argument_count how) m) name.place 5) _ q);
     }
 
 pub parts_left : (j : Judging) (xs ys : List Finding) → findings_faults j (xs ++ ys) ≡ [] → findings_faults j xs ≡ []
@@ -156,7 +156,7 @@ just true h = refl
 just false h = cc
 
 module _ (text : Text) (k : PlainKernel) (words : ℕ) (uses : List ℕ) (j : Judging) (knows : Knows text k uses j.gives) where
-  abbrev scope : wf.Scope
+  abbrev scope : wf.TermScope
   scope = record { kernel = k; words = words; uses = uses }
 
   -- ---- reads

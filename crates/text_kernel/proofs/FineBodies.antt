@@ -7,7 +7,7 @@ use Rattle.forec_tree.specs.declared.tree.Number.{Number}
 use Rattle.forec_tree.specs.declared.uses.How.TheVariants.{Runs, Starts}
 use Rattle.forec_tree.specs.Terms.{Term, Terms, no_terms, more_terms, count_terms, Declared, Statement, Declare, Nothing, Group, Assign, Invoke, If, While, For, Pause, Par, Abort, Return, Statements, no_statements, more_statements, Perhaps, absent, present, Branches, no_branches, by_call, by_group, Text, PlainItem, IsGlobal, IsFunction}
 use Rattle.forec_tree.specs.Scopes as tree
-use Rattle.forec_tree.specs.Scopes.{Scope, no_scope, entered, after, after_perhaps, find_item, local_meaning, item_meaning, meaning}
+use Rattle.forec_tree.specs.Scopes.{Scope, no_scope, inner_scope, after, after_perhaps, find_item, local_meaning, item_meaning, meaning}
 use Rattle.forec_tree.specs.Findings.{Finding, Loop, Synchronous, Gives, Closes, in_bound, in_term, in_terms, in_optional, in_locals, in_target, in_statement, in_statements, in_perhaps, in_branches}
 use Rattle.forec_tree.specs.Rules.{Judging, fault_if, use_faults, findings_faults}
 use Rattle.forec_tree.specs.Pauses.{find_function}
@@ -20,7 +20,7 @@ use Rattle.text_kernel.specs.declared.names.Slot.{Slot}
 use Rattle.text_kernel.specs.Bindings as binds
 use Rattle.text_kernel.specs.Bindings.{find_slot}
 use Rattle.text_kernel.specs.Lowering as low
-use Rattle.text_kernel.specs.Lowering.{lower_term, lower_terms, sequence, ends_with, set_params, lower_locals, slots_after, optional_test, bound_of, or_inferred, lower_statement, lower_list, lower_perhaps, lower_branches, scope_after, scope_after_perhaps, after_start, then_step, par_of, par_after, params_of, NextNumbers, Made, Inlined}
+use Rattle.text_kernel.specs.Lowering.{lower_term, lower_terms, sequence, ends_with, set_params, lower_locals, slots_after, optional_test, bound_of, or_inferred, lower_statement, lower_list, lower_perhaps, lower_branches, scope_after, scope_after_perhaps, after_start, then_step, par_of, par_after, param_names, NextNumbers, Made, Inlined}
 use Rattle.text_kernel.proofs.Fine.{none_left, none_right, not_broken, not_not, parts_left, parts_right, GoodUse, seen_option, Matches, Knows, fine_term, fine_terms, count_lowered, use_good}
 use Rattle.text_kernel.proofs.FineStatements.{sequence_fine, ends_fine, target_fine}
 use Rattle.text_kernel.proofs.Unbroken.{Unbroken, unbroken_left, unbroken_right}
@@ -73,8 +73,8 @@ module _
     (for_ok : (sc : Scope) (at : Place) (start : Perhaps) (test : Option Term) (step : Perhaps) (bound : Option Number) (body : Statement) →
     Unbroken text j (in_statement text sc (For at start test step bound body)) → FineBound j.gives (or_inferred (bound_of bound) (inferred text (For at start test step bound body))))
     (locals_ok : (sc : Scope) (s : List Slot) (slot : ℕ) (ls : List Declared) → Matches words sc s → findings_faults j (in_locals text sc ls) ≡ [] → slots_after text slot ls ≤ words →
-    FineStmts j.gives (record { kernel = k; words = words; uses = uses }) (lower_locals text s slot ls) × Matches words (tree.with_locals sc ls) (binds.with_locals s slot ls)) where
-  abbrev inside_of : wf.Scope
+    FineStmts j.gives (record { kernel = k; words = words; uses = uses }) (lower_locals text s slot ls) × Matches words (tree.with_locals sc ls) (binds.with_local_slots s slot ls)) where
+  abbrev inside_of : wf.TermScope
   inside_of = record { kernel = k; words = words; uses = uses }
 
   sets_fine : (sc : Scope) (s : List Slot) (slot : ℕ) (es : Terms) → Matches words sc s → findings_faults j (in_terms text sc es) ≡ [] → slot + count_terms es ≤ words →
@@ -85,7 +85,7 @@ module _
       let more : suc slot + count_terms rest ≤ words = omega arith in
       ((first, fine_term text k words uses j knows sc s m e (parts_left j (in_term text sc e) (in_terms text sc rest) h)), sets_fine sc s (suc slot) rest m (parts_right j (in_term text sc e) (in_terms text sc rest) h) more)
 
-  entered_matches : (sc : Scope) (s : List Slot) → Matches words sc s → Matches words (entered sc) s
+  entered_matches : (sc : Scope) (s : List Slot) → Matches words sc s → Matches words (inner_scope sc) s
   entered_matches sc s m = record { same = m.same ∙ sym (Rattle.std.proofs.Common.append-nil (sc.outer ++ sc.here)); good = m.good }
 
   behind_matches : (sc : Scope) (s : List Slot) (n : NextNumbers) (t : ℕ) (a : Statement) → Matches words sc s → findings_faults j (in_statement text sc a) ≡ [] →
@@ -131,7 +131,7 @@ module _
   step_fine (present x) body a f g = (f, (g, tt))
 
   start_params : (n : ℕ) (i : Option PlainItem) (o : Option Slot) → GoodUse j.gives (Starts n) (local_meaning (seen_option o) (item_meaning i)) →
-      length (params_of (elim i [ None ↦ None | Some (IsGlobal g) ↦ None | Some (IsFunction f) ↦ Some f ])) ≡ n
+      length (param_names (elim i [ None ↦ None | Some (IsGlobal g) ↦ None | Some (IsFunction f) ↦ Some f ])) ≡ n
   start_params n i (Some x) u = let bad = u.fits in cc
   start_params n None None u = let bad = u.known in cc
   start_params n (Some (IsGlobal g)) None u = let bad = u.fits in cc
@@ -150,7 +150,7 @@ module _
       let h1 = none_right own (findings_faults j (in_terms text sc args ++ in_branches text sc rest)) h in
       let u = use_good text k words uses j knows sc s how name m (none_left own (findings_faults j (in_terms text sc args ++ in_branches text sc rest)) h) in
       let long = threads_grow (right name.id 0 n.thread inside).grown in
-      let first = low.thread_of t q (Some name.id) (length (params_of (find_function name.id text))) b in
+      let first = low.made_thread t q (Some name.id) (length (param_names (find_function name.id text))) b in
       let others = (lower_branches text called t s q next rest).made in
       let here_ : n.thread ≡ n.thread + 0 = omega arith in (
         record {
@@ -168,7 +168,7 @@ module _
       let b = lower_list text called n.thread [] inside body in
       let next : NextNumbers = record { slot = n.slot; thread = b.next.thread; par = b.next.par } in
       let long = threads_grow (list_grows text called right n.thread [] inside body).grown in
-      let first = low.thread_of t q None 0 (record { stmt = sequence b.list; next = b.next; made = b.made }) in
+      let first = low.made_thread t q None 0 (record { stmt = sequence b.list; next = b.next; made = b.made }) in
       let others = (lower_branches text called t s q next rest).made in
       let here_ : n.thread ≡ n.thread + 0 = omega arith in (
         record {
@@ -193,7 +193,7 @@ module _
         (lower_statement text called t s n a).next.slot ≤ words → SitsIf j.gives k n.thread (lower_statement text called t s n a).made → FineStmt j.gives inside_of (lower_statement text called t s n a).stmt
     fine t s n sc (Nothing at) m h l z = tt
     fine t s n sc (Group at body) m h l z =
-        sequence_fine j.gives inside_of (lower_list text called t s n body).list (list_fine t s n (entered sc) body (entered_matches sc s m) h l z)
+        sequence_fine j.gives inside_of (lower_list text called t s n body).list (list_fine t s n (inner_scope sc) body (entered_matches sc s m) h l z)
     fine t s n sc (Declare at locals) m h l z = sequence_fine j.gives inside_of (lower_locals text s n.slot locals) (locals_ok sc s n.slot locals m h.rules l).0
     fine t s n sc (Assign at target op value) m h l z =
         target_fine text k words uses j knows called sc s m target.name target.index op (lower_term text s value)
@@ -207,31 +207,31 @@ module _
         (ends_fine j.gives inside_of (set_params text s n.slot args) (called name.id n.slot t from).stmt
         (sets_fine sc s n.slot args m (none_right (use_faults j how name (meaning text sc name.id)) (findings_faults j (in_terms text sc args)) h.rules) (omega (arith, g, l))) b)
     fine t s n sc (If at test a b) m h l z =
-        let r = unbroken_right text j (in_term text sc test) (in_statement text (entered sc) a ++ in_perhaps text (entered sc) b) h in
+        let r = unbroken_right text j (in_term text sc test) (in_statement text (inner_scope sc) a ++ in_perhaps text (inner_scope sc) b) h in
         let one = lower_statement text called t s n a in
         let two = perhaps_rises text called up t s one.next b in
         let long = threads_grow (grows text called right t s n a).grown in
         let rest = (lower_perhaps text called t s one.next b).made in (
-          fine_term text k words uses j knows sc s m test (parts_left j (in_term text sc test) (in_statement text (entered sc) a ++ in_perhaps text (entered sc) b) h.rules),
-          fine t s n (entered sc) a (entered_matches sc s m) (unbroken_left text j (in_statement text (entered sc) a) (in_perhaps text (entered sc) b) r) (omega (arith, two, l)) (left_if j.gives k n.thread one.made rest z),
-          perhaps_fine t s one.next (entered sc) b (entered_matches sc s m) (unbroken_right text j (in_statement text (entered sc) a) (in_perhaps text (entered sc) b) r) l (right_if j.gives k n.thread one.next.thread one.made rest long z),
+          fine_term text k words uses j knows sc s m test (parts_left j (in_term text sc test) (in_statement text (inner_scope sc) a ++ in_perhaps text (inner_scope sc) b) h.rules),
+          fine t s n (inner_scope sc) a (entered_matches sc s m) (unbroken_left text j (in_statement text (inner_scope sc) a) (in_perhaps text (inner_scope sc) b) r) (omega (arith, two, l)) (left_if j.gives k n.thread one.made rest z),
+          perhaps_fine t s one.next (inner_scope sc) b (entered_matches sc s m) (unbroken_right text j (in_statement text (inner_scope sc) a) (in_perhaps text (inner_scope sc) b) r) l (right_if j.gives k n.thread one.next.thread one.made rest long z),
         )
     fine t s n sc (While at test bound body) m h l z =
-        let h1 = unbroken_right text j (Loop (While at test bound body) ∷ []) (in_bound bound ++ (in_term text sc test ++ in_statement text (entered sc) body)) h in
-        let r = unbroken_right text j (in_bound bound) (in_term text sc test ++ in_statement text (entered sc) body) h1 in (
+        let h1 = unbroken_right text j (Loop (While at test bound body) ∷ []) (in_bound bound ++ (in_term text sc test ++ in_statement text (inner_scope sc) body)) h in
+        let r = unbroken_right text j (in_bound bound) (in_term text sc test ++ in_statement text (inner_scope sc) body) h1 in (
           while_ok sc at test bound body h,
-          fine_term text k words uses j knows sc s m test (parts_left j (in_term text sc test) (in_statement text (entered sc) body) r.rules),
-          fine t s n (entered sc) body (entered_matches sc s m) (unbroken_right text j (in_term text sc test) (in_statement text (entered sc) body) r) l z,
+          fine_term text k words uses j knows sc s m test (parts_left j (in_term text sc test) (in_statement text (inner_scope sc) body) r.rules),
+          fine t s n (inner_scope sc) body (entered_matches sc s m) (unbroken_right text j (in_term text sc test) (in_statement text (inner_scope sc) body) r) l z,
         )
     fine t s n sc (For at start test step bound body) m h l z =
-        let sc1 = entered sc in
+        let sc1 = inner_scope sc in
         let sc2 = after_perhaps sc1 start in
         let sc3 = after_perhaps sc2 step in
         let s2 = scope_after_perhaps text s n.slot start in
         let i = lower_perhaps text called t s n start in
         let d = lower_perhaps text called t s2 i.next step in
         let s3 = scope_after_perhaps text s2 i.next.slot step in
-        let r4 = in_perhaps text sc2 step ++ in_statement text (entered sc3) body in
+        let r4 = in_perhaps text sc2 step ++ in_statement text (inner_scope sc3) body in
         let r3 = in_optional text sc2 test ++ r4 in
         let r2 = in_perhaps text sc1 start ++ r3 in
         let h1 = unbroken_right text j (Loop (For at start test step bound body) ∷ []) (in_bound bound ++ r2) h in
@@ -239,7 +239,7 @@ module _
         let hs = unbroken_left text j (in_perhaps text sc1 start) r3 h2 in
         let h3 = unbroken_right text j (in_perhaps text sc1 start) r3 h2 in
         let h4 = unbroken_right text j (in_optional text sc2 test) r4 h3 in
-        let hd = unbroken_left text j (in_perhaps text sc2 step) (in_statement text (entered sc3) body) h4 in
+        let hd = unbroken_left text j (in_perhaps text sc2 step) (in_statement text (inner_scope sc3) body) h4 in
         let lb = rises text called up t s3 d.next body in
         let ld = perhaps_rises text called up t s2 i.next step in
         let low_d : d.next.slot ≤ words = omega (arith, lb, l) in
@@ -251,7 +251,7 @@ module _
         let long_i = threads_grow (perhaps_grows text called right t s n start).grown in
         let long_d = threads_grow (perhaps_grows text called right t s2 i.next step).grown in
         let z2 = right_if j.gives k n.thread i.next.thread i.made (d.made ++ last.made) long_i z in
-        let fb = fine t s3 d.next (entered sc3) body (entered_matches sc3 s3 m3) (unbroken_right text j (in_perhaps text sc2 step) (in_statement text (entered sc3) body) h4) l
+        let fb = fine t s3 d.next (inner_scope sc3) body (entered_matches sc3 s3 m3) (unbroken_right text j (in_perhaps text sc2 step) (in_statement text (inner_scope sc3) body) h4) l
         (right_if j.gives k i.next.thread d.next.thread d.made last.made long_d z2) in
         start_fine start i.stmt _ (perhaps_fine t s n sc1 start m1 hs low_i (left_if j.gives k n.thread i.made (d.made ++ last.made) z)) (
           for_ok sc at start test step bound body h,
@@ -263,10 +263,10 @@ module _
         par_fine t s n.par (record { slot = n.slot; thread = n.thread; par = par_after bs n.par }) sc bs m (synchronous at (in_branches text sc bs) h.rules)
         (none_right (fault_if j.gives at 12) (findings_faults j (in_branches text sc bs)) h.rules) (z (synchronous at (in_branches text sc bs) h.rules))
     fine t s n sc (Abort at weak immediate test body) m h l z =
-        let r = unbroken_right text j (Synchronous at ∷ []) (in_term text sc test ++ in_statements text (entered sc) body) h in (
-          thread_only j.gives (synchronous at (in_term text sc test ++ in_statements text (entered sc) body) h.rules),
-          fine_term text k words uses j knows sc s m test (parts_left j (in_term text sc test) (in_statements text (entered sc) body) r.rules),
-          sequence_fine j.gives inside_of (lower_list text called t s n body).list (list_fine t s n (entered sc) body (entered_matches sc s m) (unbroken_right text j (in_term text sc test) (in_statements text (entered sc) body) r) l z),
+        let r = unbroken_right text j (Synchronous at ∷ []) (in_term text sc test ++ in_statements text (inner_scope sc) body) h in (
+          thread_only j.gives (synchronous at (in_term text sc test ++ in_statements text (inner_scope sc) body) h.rules),
+          fine_term text k words uses j knows sc s m test (parts_left j (in_term text sc test) (in_statements text (inner_scope sc) body) r.rules),
+          sequence_fine j.gives inside_of (lower_list text called t s n body).list (list_fine t s n (inner_scope sc) body (entered_matches sc s m) (unbroken_right text j (in_term text sc test) (in_statements text (inner_scope sc) body) r) l z),
         )
     fine t s n sc (Return at value) m h l z =
         (giving at (in_term text sc value) h.rules, fine_term text k words uses j knows sc s m value (none_right (fault_if (not j.gives) at 14) (findings_faults j (in_term text sc value)) h.rules))

@@ -19,24 +19,24 @@ use Rattle.forec_kernel.specs.WellFormed.{FineExpr, FineStmt, FineStmts, IsArray
 use Rattle.text_kernel.specs.declared.names.Slot.{Slot}
 use Rattle.text_kernel.specs.declared.names.Stands.TheVariants as st
 use Rattle.text_kernel.specs.Bindings.{find_slot, slot_stands, item_stands, constant_stands, variable_stands, variable_number}
-use Rattle.text_kernel.specs.Lowering.{lower_term, sequence, ends_with, operated, assign_to, assign_at, lower_target, Inlined}
+use Rattle.text_kernel.specs.Lowering.{lower_term, sequence, ends_with, operated_expr, assign_to, assign_at, lower_target, Inlined}
 use Rattle.text_kernel.proofs.Fine.{none_left, none_right, GoodUse, has_size, long_of, seen_option, GoodSlot, Matches, finds, Sized, GoodItem, Knows, place_has, falls, just, fine_term, slot_good, use_good}
 
-pub sequence_fine : (f : Bool) (s : wf.Scope) (list : Stmts) → FineStmts f s list → FineStmt f s (sequence list)
+pub sequence_fine : (f : Bool) (s : wf.TermScope) (list : Stmts) → FineStmts f s list → FineStmt f s (sequence list)
 sequence_fine f s no_stmts h = tt
 sequence_fine f s (more_stmts a no_stmts) h = h.0
 sequence_fine f s (more_stmts a (more_stmts b rest)) h = h
 
-pub ends_fine : (f : Bool) (s : wf.Scope) (list : Stmts) (a : Stmt) → FineStmts f s list → FineStmt f s a → FineStmts f s (ends_with list a)
+pub ends_fine : (f : Bool) (s : wf.TermScope) (list : Stmts) (a : Stmt) → FineStmts f s list → FineStmt f s a → FineStmts f s (ends_with list a)
 ends_fine f s no_stmts a h g = (g, tt)
 ends_fine f s (more_stmts b rest) a h g = (h.0, ends_fine f s rest a h.1 g)
 
-operated_fine : (s : wf.Scope) (op : Option OpAt) (old value : Expr) → FineExpr s old → FineExpr s value → FineExpr s (operated op old value)
+operated_fine : (s : wf.TermScope) (op : Option OpAt) (old value : Expr) → FineExpr s old → FineExpr s value → FineExpr s (operated_expr op old value)
 operated_fine s None old value h g = g
 operated_fine s (Some o) old value h g = (place_has o.op o.place, h, g)
 
 module _ (text : Text) (k : PlainKernel) (words : ℕ) (uses : List ℕ) (j : Judging) (knows : Knows text k uses j.gives) where
-  abbrev scope : wf.Scope
+  abbrev scope : wf.TermScope
   scope = record { kernel = k; words = words; uses = uses }
 
   -- ---- assignments

@@ -23,7 +23,7 @@ use Rattle.forec_kernel.specs.WellFormed.{FineStmt, FineFunction, FineVariable, 
 use Rattle.text_kernel.specs.Bindings.{params_at, number_among, is_int_function}
 use Rattle.text_kernel.specs.Lowering.{NextNumbers, Inlined, lowered, sequence}
 use Rattle.text_kernel.specs.Kernels as kernels
-use Rattle.text_kernel.specs.Kernels.{kernel_of, int_functions, variable_shape, combine_of}
+use Rattle.text_kernel.specs.Kernels.{kernel_of, int_functions, variable_shape, combine_function}
 use Rattle.text_kernel.specs.Limits.{WithinLimits}
 use Rattle.text_kernel.proofs.Fine.{none_left, none_right, not_broken, not_not, parts_left, Matches}
 use Rattle.text_kernel.proofs.FineStatements.{sequence_fine}
@@ -84,34 +84,34 @@ module _ (text : Text) (names : List (List ℕ)) where
   int_function n = get_or (int_functions text names text) n (blank_function text names)
 
   words_at : (fs : List PlainFunction) (n : ℕ) → n < length fs →
-      function_words (map (λ f. record { params = length f.params; words = (kernels.function_body text names f).next.slot }) fs) n ≡ (kernels.function_body text names (get_or fs n (blank_function text names))).next.slot
+      function_words (map (λ f. record { params = length f.params; words = (kernels.lowered_function_body text names f).next.slot }) fs) n ≡ (kernels.lowered_function_body text names (get_or fs n (blank_function text names))).next.slot
   words_at [] n l = absurd (omega arith)
   words_at (f ∷ fs) zero l = refl
   words_at (f ∷ fs) (suc n) l = words_at fs n (omega arith)
 
   pub words_of_function : (n : ℕ) → n < length (int_functions text names text) →
-      function_words (kernel_of text names).shape.functions n ≡ (kernels.function_body text names (int_function n)).next.slot
+      function_words (kernel_of text names).shape.functions n ≡ (kernels.lowered_function_body text names (int_function n)).next.slot
   unfolding kernel_of
   words_of_function n l = words_at (int_functions text names text) n l
 
   pub body_of_function : (n : ℕ) → n < length (int_functions text names text) →
-      function_body (kernel_of text names) n ≡ sequence (kernels.function_body text names (int_function n)).list
+      function_body (kernel_of text names) n ≡ sequence (kernels.lowered_function_body text names (int_function n)).list
   unfolding kernel_of
-  body_of_function n l = get_or-map (λ f. sequence (kernels.function_body text names f).list) (int_functions text names text) n (blank_function text names) kernel.Nop l
+  body_of_function n l = get_or-map (λ f. sequence (kernels.lowered_function_body text names f).list) (int_functions text names text) n (blank_function text names) kernel.Nop l
 
   pub function_low : (n : ℕ) → n < length (kernel_of text names).functions → n < length (int_functions text names text)
   unfolding kernel_of
-  function_low n l = let e = length-map (int_functions text names text) (λ f. sequence (kernels.function_body text names f).list) in omega (arith, e)
+  function_low n l = let e = length-map (int_functions text names text) (λ f. sequence (kernels.lowered_function_body text names f).list) in omega (arith, e)
 
   module _ (clean : Clean text names) where
     -- the body of an int function, with its own words
     pub body_fine : (f : PlainFunction) → Member (IsFunction f) text → f.gives ≡ true →
-        FineStmt true (record { kernel = kernel_of text names; words = (kernels.function_body text names f).next.slot; uses = [] }) (sequence (kernels.function_body text names f).list)
+        FineStmt true (record { kernel = kernel_of text names; words = (kernels.lowered_function_body text names f).next.slot; uses = [] }) (sequence (kernels.lowered_function_body text names f).list)
     body_fine f m g =
         let k = kernel_of text names in
         let c = function_of text names clean f m in
         let j : Judging = record { names = names; gives = true } in
-        let words = (kernels.function_body text names f).next.slot in
+        let words = (kernels.lowered_function_body text names f).next.slot in
         let from : NextNumbers = record { slot = length f.params; thread = 1; par = 0 } in
         let inside = with_params no_scope f.params in
         let params = in_params text no_scope f.params in
@@ -121,16 +121,16 @@ module _ (text : Text) (names : List (List ℕ)) where
         let up = list_rises text nothing (λ id first t n. omega arith) 0 (params_at 0 f.params) from f.body in
         let none : Matches words no_scope [] = record { same = refl; good = λ x h. elim h [ ] } in
         let match_ = params_match text j words no_scope [] 0 f.params none (parts_left j params body rules) (omega (arith, up)) in
-        sequence_fine true (record { kernel = k; words = words; uses = [] }) (kernels.function_body text names f).list
+        sequence_fine true (record { kernel = k; words = words; uses = [] }) (kernels.lowered_function_body text names f).list
         (list_fine text k words [] j (known_function text names) nothing (λ id first t n. still t n n [] refl refl refl) (λ id first t n. omega arith)
         (λ t n first sc name from broken taken low sits. tt) (while_bounded text j refl) (for_bounded text j refl)
         (locals_fine text k words [] j (known_function text names) nothing)
         0 (params_at 0 f.params) from inside f.body match_ (unbroken_right text j params body whole) (omega arith) (λ e. cc))
 
-    returns_fine : (f : PlainFunction) → Member (IsFunction f) text → f.gives ≡ true → wf.returns (sequence (kernels.function_body text names f).list) ≡ true
+    returns_fine : (f : PlainFunction) → Member (IsFunction f) text → f.gives ≡ true → wf.returns (sequence (kernels.lowered_function_body text names f).list) ≡ true
     returns_fine f m g =
         let c = function_of text names clean f m in
-        sequence_returns (kernels.function_body text names f).list
+        sequence_returns (kernels.lowered_function_body text names f).list
         ∙ list_returns text nothing 0 (params_at 0 f.params) (record { slot = length f.params; thread = 1; par = 0 }) f.body (c.returns g)
 
     pub function_fine : WithinLimits (kernel_of text names) → (n : ℕ) → n < length (kernel_of text names).functions → FineFunction (kernel_of text names) n
@@ -150,7 +150,7 @@ module _ (text : Text) (names : List (List ℕ)) where
           params = omega (arith, params, words, up);
           few = omega (arith, params, few);
           body = subst (λ x. FineStmt true (record { kernel = k; words = function_words k.shape.functions n; uses = [] }) x) (sym body)
-              (subst (λ w. FineStmt true (record { kernel = k; words = w; uses = [] }) (sequence (kernels.function_body text names f).list)) (sym words) (body_fine f i.member i.gives));
+              (subst (λ w. FineStmt true (record { kernel = k; words = w; uses = [] }) (sequence (kernels.lowered_function_body text names f).list)) (sym words) (body_fine f i.member i.gives));
           returns = ap wf.returns body ∙ returns_fine f i.member i.gives;
           depth = functions_depth k within n l;
         }
@@ -201,7 +201,7 @@ module _ (text : Text) (names : List (List ℕ)) where
         let h4 = none_right (fault_if (is_long names g.name.id) g.name.place 21) _ h3 in
         none_left (combine_faults text g.combine) _ h4
 
-    combined : (o : Option Combine) → combine_faults text o ≡ [] → (f : ℕ) → combine_of text names o ≡ Some f → (f < length (kernel_of text names).functions) × (function_params (kernel_of text names) f ≡ 2)
+    combined : (o : Option Combine) → combine_faults text o ≡ [] → (f : ℕ) → combine_function text names o ≡ Some f → (f < length (kernel_of text names).functions) × (function_params (kernel_of text names) f ≡ 2)
     combined None h f e = cc
     combined (Some c) h f e =
         let is = combine_is c (find_item c.with.id text) refl h in

@@ -4,7 +4,7 @@ use Rattle.std.proofs.lemmas.List.{map-append}
 use Rattle.forec_base.specs.declared.Place.{Place}
 use Rattle.forec_tree.specs.declared.tree.Number.{Number}
 use Rattle.forec_tree.specs.declared.tree.OpAt.{OpAt}
-use Rattle.forec_tree.specs.Terms.{Term, Terms, no_terms, more_terms, count_terms, Declared, Written, Statement, Declare, Nothing, Group, Assign, Invoke, If, While, For, Pause, Par, Abort, Return, Statements, no_statements, more_statements, Perhaps, absent, present, Branches, no_branches, by_call, by_group, Text, PlainFunction}
+use Rattle.forec_tree.specs.Terms.{Term, Terms, no_terms, more_terms, count_terms, Declared, PlainTarget, Statement, Declare, Nothing, Group, Assign, Invoke, If, While, For, Pause, Par, Abort, Return, Statements, no_statements, more_statements, Perhaps, absent, present, Branches, no_branches, by_call, by_group, Text, PlainFunction}
 use Rattle.forec_tree.specs.Pauses.{within, find_function}
 use Rattle.forec_kernel.specs.Terms as kernel
 use Rattle.forec_kernel.specs.Terms.{Expr, Branch, Stmt, Stmts, no_stmts, more_stmts, no_exprs}
@@ -12,8 +12,8 @@ use Rattle.forec_kernel.specs.WellFormed.{pars_of, pars_in, threads_in}
 use Rattle.text_kernel.specs.declared.names.Slot.{Slot}
 use Rattle.text_kernel.specs.declared.names.Stands.{Stands}
 use Rattle.text_kernel.specs.declared.names.Stands.TheVariants as st
-use Rattle.text_kernel.specs.Bindings.{with_locals, params_at, slots_of, number_of}
-use Rattle.text_kernel.specs.Lowering.{stands, lower_term, sequence, ends_with, assign_to, assign_at, array_values, lower_local, lower_locals, set_params, lower_target, lower_statement, lower_list, lower_perhaps, lower_branches, scope_after, scope_after_perhaps, after_start, then_step, par_of, params_of, vars_of, vars_made, thread_of, NextNumbers, Made, Lowered, Listed, Inlined, inlined_body, inlined_step, inlined, nothing_inlined}
+use Rattle.text_kernel.specs.Bindings.{with_local_slots, params_at, slots_of, number_of}
+use Rattle.text_kernel.specs.Lowering.{stands, lower_term, sequence, ends_with, assign_to, assign_at, array_values, lower_local, lower_locals, set_params, lower_target, lower_statement, lower_list, lower_perhaps, lower_branches, scope_after, scope_after_perhaps, after_start, then_step, par_of, param_names, vars_of, vars_made, made_thread, NextNumbers, Made, Lowered, Listed, Inlined, inlined_body, inlined_step, inlined, nothing_inlined}
 
 -- a par of a body: its number, and the threads that are its branches
 pub record Fork : Type 0 where
@@ -123,13 +123,13 @@ module _ (text : Text) (called : ℕ → Inlined) (right : (id first t : ℕ) (n
 
   locals_pars : (s : List Slot) (slot : ℕ) (ls : List Declared) → pars_in (lower_locals text s slot ls) ≡ []
   locals_pars s slot [] = refl
-  locals_pars s slot (l ∷ rest) = ap (λ x. x ++ pars_in (lower_locals text (with_locals s slot (l ∷ [])) (slot + slots_of l.length) rest)) (local_pars s slot l) ∙ locals_pars (with_locals s slot (l ∷ [])) (slot + slots_of l.length) rest
+  locals_pars s slot (l ∷ rest) = ap (λ x. x ++ pars_in (lower_locals text (with_local_slots s slot (l ∷ [])) (slot + slots_of l.length) rest)) (local_pars s slot l) ∙ locals_pars (with_local_slots s slot (l ∷ [])) (slot + slots_of l.length) rest
 
   sets_pars : (s : List Slot) (slot : ℕ) (es : Terms) → pars_in (set_params text s slot es) ≡ []
   sets_pars s slot no_terms = refl
   sets_pars s slot (more_terms e rest) = sets_pars s (suc slot) rest
 
-  target_pars : (s : List Slot) (target : Written) (op : Option OpAt) (value : Expr) → pars_of (lower_target text s target op value) ≡ []
+  target_pars : (s : List Slot) (target : PlainTarget) (op : Option OpAt) (value : Expr) → pars_of (lower_target text s target op value) ≡ []
   target_pars s target op value = pick target.index refl
     where
       pick : (i : Option Term) → target.index ≡ i → pars_of (lower_target text s target op value) ≡ []
@@ -138,7 +138,7 @@ module _ (text : Text) (called : ℕ → Inlined) (right : (id first t : ℕ) (n
 
   call_branch : (t q : ℕ) (n : NextNumbers) (id taken params : ℕ) →
       let b = called id 0 n.thread (record { slot = taken; thread = suc n.thread; par = n.par }) in
-      Branching t q n.thread n.par (thread_of t q (Some id) params b) b.next.thread b.next.par
+      Branching t q n.thread n.par (made_thread t q (Some id) params b) b.next.thread b.next.par
   call_branch t q n id taken params =
       let inside : NextNumbers = record { slot = taken; thread = suc n.thread; par = n.par } in
       let b = called id 0 n.thread inside in
@@ -146,7 +146,7 @@ module _ (text : Text) (called : ℕ → Inlined) (right : (id first t : ℕ) (n
       branch (made_of t q (Some id) params b) refl refl refl g.are refl g.grown
 
   group_branch : (t q : ℕ) (n : NextNumbers) (l : Listed) → IsGrown n.thread (record { slot = 0; thread = suc n.thread; par = n.par }) (pars_in l.list) l.made l.next →
-      Branching t q n.thread n.par (thread_of t q None 0 (record { stmt = sequence l.list; next = l.next; made = l.made })) l.next.thread l.next.par
+      Branching t q n.thread n.par (made_thread t q None 0 (record { stmt = sequence l.list; next = l.next; made = l.made })) l.next.thread l.next.par
   group_branch t q n l g =
       branch (made_of t q None 0 (record { stmt = sequence l.list; next = l.next; made = l.made })) refl refl refl (g.are ∙ sym (sequence_pars l.list)) refl g.grown
 
@@ -197,7 +197,7 @@ module _ (text : Text) (called : ℕ → Inlined) (right : (id first t : ℕ) (n
         record {
           forks = record { number = n.par; threads = n.thread ∷ threads_in (lower_branches text called t s n.par m rest).launches } ∷ [];
           are = refl;
-          grown = fork (call_branch t n.par from name.id (count_terms args) (length (params_of (find_function name.id text)))) (branches_grow t s n.par m rest);
+          grown = fork (call_branch t n.par from name.id (count_terms args) (length (param_names (find_function name.id text)))) (branches_grow t s n.par m rest);
         }
     grows t s n (Par at (by_group place body rest)) =
         let from : NextNumbers = record { slot = n.slot; thread = n.thread; par = suc n.par } in
@@ -233,7 +233,7 @@ module _ (text : Text) (called : ℕ → Inlined) (right : (id first t : ℕ) (n
     branches_grow t s q n (by_call name args rest) =
         let b = called name.id 0 n.thread (record { slot = count_terms args; thread = suc n.thread; par = n.par }) in
         let m : NextNumbers = record { slot = n.slot; thread = b.next.thread; par = b.next.par } in
-        more_row (call_branch t q n name.id (count_terms args) (length (params_of (find_function name.id text)))) (branches_grow t s q m rest)
+        more_row (call_branch t q n name.id (count_terms args) (length (param_names (find_function name.id text)))) (branches_grow t s q m rest)
     branches_grow t s q n (by_group at body rest) =
         let inside : NextNumbers = record { slot = 0; thread = suc n.thread; par = n.par } in
         let l = lower_list text called n.thread [] inside body in

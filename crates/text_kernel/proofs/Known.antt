@@ -11,7 +11,7 @@ use Rattle.forec_tree.specs.Faults.{none_before, item_named}
 use Rattle.forec_kernel.specs.declared.shape.FunctionShape.{FunctionShape}
 use Rattle.forec_kernel.specs.WellFormed.{count_up, function_params}
 use Rattle.text_kernel.specs.Bindings.{number_among, variable_number, item_id, is_table, is_int_function}
-use Rattle.text_kernel.specs.Kernels.{kernel_of, variable_count, tables_of, int_functions, function_body}
+use Rattle.text_kernel.specs.Kernels.{kernel_of, variable_count, tables_of, int_functions, lowered_function_body}
 use Rattle.text_kernel.proofs.VariableNumbers.{First, first, further, stated_is, row_within, width_of, numbers_below}
 use Rattle.text_kernel.proofs.Fine.{none_left, none_right, not_broken, Sized, Knows}
 use Rattle.text_kernel.proofs.Faultless.{Clean, item_clean, found_member}
@@ -101,7 +101,7 @@ module _ (text : Text) (names : List (List ℕ)) where
   unfolding kernel_of
   shape_params n l =
       ap (λ (x : FunctionShape). x.params)
-      (get_or-map (λ f. record { params = length f.params; words = (function_body text names f).next.slot }) (int_functions text names text) n blank_function (record { params = 0; words = 0 }) l)
+      (get_or-map (λ f. record { params = length f.params; words = (lowered_function_body text names f).next.slot }) (int_functions text names text) n blank_function (record { params = 0; words = 0 }) l)
 
   tables_long : length (kernel_of text names).shape.tables ≡ how_many is_table text
   unfolding kernel_of

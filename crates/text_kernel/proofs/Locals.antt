@@ -80,7 +80,7 @@ matches_more words sc s x array a m g e = subst (λ t. Matches words t (s ++ x �
         }
 
 module _ (text : Text) (k : PlainKernel) (words : ℕ) (uses : List ℕ) (j : Judging) (knows : Knows text k uses j.gives) (called : ℕ → Inlined) where
-  abbrev scope : wf.Scope
+  abbrev scope : wf.TermScope
   scope = record { kernel = k; words = words; uses = uses }
 
   values_fine : (sc : Scope) (s : List Slot) (slot size n : ℕ) (es : Terms) (place : Rattle.forec_base.specs.declared.Place.Place) → IsArray scope slot size → Matches words sc s → findings_faults j (in_terms text sc es) ≡ [] →
@@ -103,7 +103,7 @@ module _ (text : Text) (k : PlainKernel) (words : ℕ) (uses : List ℕ) (j : Ju
       (a, values_fine sc s slot (number_of n) 0 es name.place a m h)
 
   pub locals_fine : (sc : Scope) (s : List Slot) (slot : ℕ) (ls : List Declared) → Matches words sc s → findings_faults j (in_locals text sc ls) ≡ [] → slots_after text slot ls ≤ words →
-      FineStmts j.gives scope (lower_locals text s slot ls) × Matches words (tree.with_locals sc ls) (binds.with_locals s slot ls)
+      FineStmts j.gives scope (lower_locals text s slot ls) × Matches words (tree.with_locals sc ls) (binds.with_local_slots s slot ls)
   locals_fine sc s slot [] m h l = (tt, m)
   locals_fine sc s slot (d ∷ rest) m h l =
       let own = declared_faults j.names d.name (is_among d.name.id sc.here) d.length (count_terms d.values) in

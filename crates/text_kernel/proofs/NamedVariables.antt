@@ -466,7 +466,7 @@ module _ (text : Text) (j : Judging) (g : PlainGlobal) (is_item : find_item g.na
       ∙ values_names sc s m slot (number_of n) 0 es name.place h
 
   pub locals_names : (sc : Scope) (s : List Slot) → Agree sc s → (slot : ℕ) (ls : List Declared) → OneValues ls → findings_faults j (in_locals text sc ls) ≡ [] →
-      Same (vars_list (lower_locals text s slot ls)) (globals_in (in_locals text sc ls)) × Agree (tree.with_locals sc ls) (binds.with_locals s slot ls)
+      Same (vars_list (lower_locals text s slot ls)) (globals_in (in_locals text sc ls)) × Agree (tree.with_locals sc ls) (binds.with_local_slots s slot ls)
   locals_names sc s m slot [] one h = (refl, m)
   locals_names sc s m slot (d ∷ rest) one h =
       let own = declared_faults j.names d.name (is_among d.name.id sc.here) d.length (count_terms d.values) in

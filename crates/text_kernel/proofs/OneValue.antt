@@ -5,7 +5,7 @@ use Rattle.forec_tree.specs.declared.token.Token.{Token}
 use Rattle.forec_tree.specs.Terms.{Terms, no_terms, more_terms, Declared, Statement, Declare, Nothing, Group, Assign, Invoke, If, While, For, Pause, Par, Abort, Return, Statements, no_statements, more_statements, Perhaps, absent, present, Branches, no_branches, by_call, by_group, Text, PlainItem, PlainGlobal, PlainFunction, IsGlobal, IsFunction}
 use Rattle.forec_tree.specs.Spelling.{Spelt}
 use Rattle.forec_tree.specs.Parts.{in_order, Launch, launched_before, launched, Head}
-use Rattle.forec_tree.specs.SpelledStatements.{Separated, last_part, next_part, Simple, sets, updates, steps_after, steps_ahead, invokes, Declares, bare, valued, array, valued_array, ForStarts, no_start, simple_start, declared_start, ForSteps, no_step, some_step, HeadParts, head_parts, Heads, heads, Says, acts, group, declares, if_alone, if_else, loops, counts, pauses, forks, aborts, gives_back, Block, block, Lists, no_more, and_more, Forks, forked, Starting, bare_call, call, blocked, Launches, last_branch, next_branch}
+use Rattle.forec_tree.specs.SpelledStatements.{Separated, last_part, next_part, Simple, sets, updates, steps_after, steps_ahead, invokes, Declares, bare, valued, array, valued_array, ForStarts, no_start, simple_start, declared_start, ForSteps, no_step, some_step, HeadParts, head_parts, Heads, heads, SpellsStatement, acts, group, declares, if_alone, if_else, loops, counts, pauses, forks, aborts, gives_back, Block, block, SpellsStatements, no_more, and_more, SpellsBranches, forked, Starting, bare_call, call, blocked, SpellsLaunches, last_branch, next_branch}
 use Rattle.forec_tree.specs.SpelledStatements as says
 use Rattle.forec_tree.specs.SpelledPrograms.{Introduces, constants, inputs, outputs, globals, shared_globals, function, Programs, no_items, more_items, IsSpelled}
 use Rattle.forec_tree.specs.Faults.{Member, here, later}
@@ -94,7 +94,7 @@ head_one (heads right m p n) = parts_one p
 -- ---- statements
 
 mutual
-  says_one : {x : Statement} {o : Bool} {v u : ℕ} {ls : List Spelt} → Says x o v u ls → OneEach x
+  says_one : {x : Statement} {o : Bool} {v u : ℕ} {ls : List Spelt} → SpellsStatement x o v u ls → OneEach x
   says_one (says.nothing m) = tt
   says_one (acts semicolon s m) = simple_one s
   says_one (group b) = block_one b
@@ -111,11 +111,11 @@ mutual
   block_one : {place : Place} {body : List Statement} {v u : ℕ} {ls : List Spelt} → Block place body v u ls → OneInAll (in_order body)
   block_one (block right m l n) = lists_one l
 
-  lists_one : {body : List Statement} {v : ℕ} {ls : List Spelt} → Lists body v ls → OneInAll (in_order body)
+  lists_one : {body : List Statement} {v : ℕ} {ls : List Spelt} → SpellsStatements body v ls → OneInAll (in_order body)
   lists_one no_more = tt
   lists_one (and_more s rest) = (says_one s, lists_one rest)
 
-  forks_one : {bs : List Launch} {v : ℕ} {ls : List Spelt} → Forks bs v ls → OneInBranches (launched bs)
+  forks_one : {bs : List Launch} {v : ℕ} {ls : List Spelt} → SpellsBranches bs v ls → OneInBranches (launched bs)
   forks_one (forked right m l n) = launches_one l
 
   starting_one : {x : Launch} {v : ℕ} {ls : List Spelt} → Starting x v ls → (rest : Branches) → OneInBranches rest → OneInBranches (launched_before x rest)
@@ -123,7 +123,7 @@ mutual
   starting_one (call id n p) rest h = h
   starting_one (blocked b) rest h = (block_one b, h)
 
-  launches_one : {bs : List Launch} {v : ℕ} {ls : List Spelt} → Launches bs v ls → OneInBranches (launched bs)
+  launches_one : {bs : List Launch} {v : ℕ} {ls : List Spelt} → SpellsLaunches bs v ls → OneInBranches (launched bs)
   launches_one (last_branch s) = starting_one s no_branches tt
   launches_one (next_branch {xs = xs} comma s m rest) = starting_one s (launched xs) (launches_one rest)
 

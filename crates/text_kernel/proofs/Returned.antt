@@ -23,7 +23,7 @@ either false y u v h f g = or_right u v (g h)
 
 module _ (text : Text) (called : ℕ → Inlined) where
   mutual
-    pub returns_too : (t : ℕ) (s : List Slot) (n : NextNumbers) (a : Statement) → rule.returns a ≡ true → returns (lower_statement text called t s n a).stmt ≡ true
+    pub returns_too : (t : ℕ) (s : List Slot) (n : NextNumbers) (a : Statement) → rule.always_returns a ≡ true → returns (lower_statement text called t s n a).stmt ≡ true
     returns_too t s n (Nothing at) h = cc
     returns_too t s n (Group at body) h = sequence_returns (lower_list text called t s n body).list ∙ list_returns t s n body h
     returns_too t s n (Declare at locals) h = cc
@@ -31,7 +31,7 @@ module _ (text : Text) (called : ℕ → Inlined) where
     returns_too t s n (Invoke at name args) h = cc
     returns_too t s n (If at test a b) h =
         let l = lower_statement text called t s n a in
-        let parts = and_parts (rule.returns a) (rule.perhaps_returns b) h in
+        let parts = and_parts (rule.always_returns a) (rule.perhaps_returns b) h in
         and_from (returns l.stmt) (returns (lower_perhaps text called t s l.next b).stmt) (returns_too t s n a parts.0) (perhaps_return t s l.next b parts.1)
     returns_too t s n (While at test bound body) h = cc
     returns_too t s n (For at start test step bound body) h = cc
@@ -40,12 +40,12 @@ module _ (text : Text) (called : ℕ → Inlined) where
     returns_too t s n (Abort at weak immediate test body) h = cc
     returns_too t s n (Return at value) h = refl
 
-    pub list_returns : (t : ℕ) (s : List Slot) (n : NextNumbers) (a : Statements) → rule.some_returns a ≡ true → some_returns (lower_list text called t s n a).list ≡ true
+    pub list_returns : (t : ℕ) (s : List Slot) (n : NextNumbers) (a : Statements) → rule.some_always_returns a ≡ true → some_returns (lower_list text called t s n a).list ≡ true
     list_returns t s n no_statements h = cc
     list_returns t s n (more_statements a rest) h =
         let l = lower_statement text called t s n a in
         let inner = scope_after text s n.slot a in
-        either (rule.returns a) (rule.some_returns rest) (returns l.stmt) (some_returns (lower_list text called t inner l.next rest).list) h
+        either (rule.always_returns a) (rule.some_always_returns rest) (returns l.stmt) (some_returns (lower_list text called t inner l.next rest).list) h
         (λ k. returns_too t s n a k) (λ k. list_returns t inner l.next rest k)
 
     perhaps_return : (t : ℕ) (s : List Slot) (n : NextNumbers) (a : Perhaps) → rule.perhaps_returns a ≡ true → returns (lower_perhaps text called t s n a).stmt ≡ true

@@ -71,7 +71,7 @@ module _ (text : Text) (k : PlainKernel) (words : ℕ) (uses : List ℕ) (names 
   abbrev pub judging : Judging
   judging = record { names = names; gives = false }
 
-  abbrev scope : wf.Scope
+  abbrev scope : wf.TermScope
   scope = record { kernel = k; words = words; uses = uses }
 
   pub in_thread : {fs : List Finding} → findings_faults judging fs ≡ [] → Unbroken text judging fs

@@ -6,12 +6,12 @@ use Rattle.std.proofs.lemmas.Option.{slice_get-get_or, slice_get_within}
 use Rattle.forec_tree.specs.declared.tree.Name.{Name}
 use Rattle.forec_tree.specs.declared.uses.How.TheVariants.{Runs, Starts}
 use Rattle.forec_tree.specs.Terms.{Term, count_terms, Statement, Declare, Nothing, Group, Assign, Invoke, If, While, For, Pause, Par, Abort, Return, Statements, no_statements, more_statements, Perhaps, absent, present, Branches, no_branches, by_call, by_group, Text, PlainGlobal, PlainFunction, IsGlobal, IsFunction}
-use Rattle.forec_tree.specs.Scopes.{Scope, no_scope, entered, after, after_perhaps, with_name, with_params, is_among, find_item, find_last, meaning}
+use Rattle.forec_tree.specs.Scopes.{Scope, no_scope, inner_scope, after, after_perhaps, with_name, with_params, is_among, find_item, find_last, meaning}
 use Rattle.forec_tree.specs.Findings.{Closes, in_bound, in_term, in_terms, in_optional, in_locals, in_target, in_statement, in_statements, in_perhaps, in_branches, in_params}
 use Rattle.forec_tree.specs.Rules.{Judging, fault_if, is_constant, use_faults, declared_faults, findings_faults}
 use Rattle.forec_tree.specs.Faults.{is_in, in_function, none_before}
 use Rattle.forec_tree.specs.Pauses.{within, find_function}
-use Rattle.forec_tree.specs.ThreadTree.{Threads, no_threads, thread, followed_by, Placed, nothing, joined, started, globals_in, naming, placed, all_placed, perhaps_placed, branches_placed, body_placed, placed_step, thread_tree, all_named, in_preorder, count_threads, those_in}
+use Rattle.forec_tree.specs.ThreadTree.{InstanceTree, no_threads, thread, followed_by, ThreadPart, no_part, both_parts, as_instance, globals_in, naming_part, statement_part, all_placed, perhaps_placed, branches_placed, body_placed, placed_step, thread_tree, all_named, in_preorder, count_instances, those_in}
 use Rattle.forec_tree.specs.Variables.{PlainVariable, width, variables}
 use Rattle.forec_tree.proofs.VariableCounts.{variables_counted}
 use Rattle.forec_kernel.specs.Terms.{Branch, Stmt}
@@ -37,24 +37,24 @@ use Rattle.text_kernel.proofs.NamedVariables.{Agree, agree_more, in_append, swap
 
 -- ---- trees side by side
 
-all_followed : (p q : Threads) → all_named (followed_by p q) ≡ all_named p ++ all_named q
+all_followed : (p q : InstanceTree) → all_named (followed_by p q) ≡ all_named p ++ all_named q
 all_followed no_threads q = refl
 all_followed (thread own below rest) q = ap (λ l. (own ++ all_named below) ++ l) (all_followed rest q) ∙ sym (append_assoc (own ++ all_named below) (all_named rest) (all_named q))
 
-preorder_followed : (p q : Threads) → in_preorder (followed_by p q) ≡ in_preorder p ++ in_preorder q
+preorder_followed : (p q : InstanceTree) → in_preorder (followed_by p q) ≡ in_preorder p ++ in_preorder q
 preorder_followed no_threads q = refl
 preorder_followed (thread own below rest) q =
     ap (λ l. (own ++ all_named below) ∷ l)
     (ap (λ l. in_preorder below ++ l) (preorder_followed rest q) ∙ sym (append_assoc (in_preorder below) (in_preorder rest) (in_preorder q)))
 
-preorder_long : (p : Threads) → length (in_preorder p) ≡ count_threads p
+preorder_long : (p : InstanceTree) → length (in_preorder p) ≡ count_instances p
 preorder_long no_threads = refl
 preorder_long (thread own below rest) = omega (arith, preorder_long below, preorder_long rest, length-append (in_preorder below) (in_preorder rest))
 
 behind_same : (x : ℕ) (a b c : List ℕ) → is_in x b ≡ is_in x c → is_in x (a ++ b) ≡ is_in x (a ++ c)
 behind_same x a b c e = in_append x a b ∙ (ap (λ t. is_in x a || t) e ∙ sym (in_append x a c))
 
-entered_agree : (sc : Scope) (s : List Slot) → Agree sc s → Agree (entered sc) s
+entered_agree : (sc : Scope) (s : List Slot) → Agree sc s → Agree (inner_scope sc) s
 entered_agree sc s m = record { same = m.same ∙ sym (append-nil (sc.outer ++ sc.here)) }
 
 no_names : Agree no_scope []
@@ -84,7 +84,7 @@ module _ (text : Text) (names : List (List ℕ)) (g : PlainGlobal) (is_item : fi
   tree_named l = is_in i l
 
   -- lowered text names the variable where the text does, and so do the threads that it adds
-  record Names (vs : List ℕ) (made : List Made) (p : Placed) : Type 0 where
+  record Names (vs : List ℕ) (made : List Made) (p : ThreadPart) : Type 0 where
     pub own : is_in v vs ≡ is_in i p.named
     pub all : is_in v (vars_made made) ≡ is_in i (all_named p.below)
     pub each : map own_named made ≡ map tree_named (in_preorder p.below)
@@ -92,10 +92,10 @@ module _ (text : Text) (names : List (List ℕ)) (g : PlainGlobal) (is_item : fi
   leaf : (vs gs : List ℕ) → Same vs gs → Names vs [] (record { named = gs; below = no_threads })
   leaf vs gs h = record { own = h; all = refl; each = refl }
 
-  alike : (vs ws : List ℕ) (made : List Made) (p : Placed) → is_in v ws ≡ is_in v vs → Names vs made p → Names ws made p
+  alike : (vs ws : List ℕ) (made : List Made) (p : ThreadPart) → is_in v ws ≡ is_in v vs → Names vs made p → Names ws made p
   alike vs ws made p e n = record { own = e ∙ n.own; all = n.all; each = n.each }
 
-  two : (a b : List ℕ) (m n : List Made) (p q : Placed) → Names a m p → Names b n q → Names (a ++ b) (m ++ n) (joined p q)
+  two : (a b : List ℕ) (m n : List Made) (p q : ThreadPart) → Names a m p → Names b n q → Names (a ++ b) (m ++ n) (both_parts p q)
   two a b m n p q x y =
       record {
         own = named.same_append text j g is_item changes nth is_one a b p.named q.named x.own y.own;
@@ -110,8 +110,8 @@ module _ (text : Text) (names : List (List ℕ)) (g : PlainGlobal) (is_item : fi
             ∙ (sym (map-append tree_named (in_preorder p.below) (in_preorder q.below)) ∙ ap (map tree_named) (sym (preorder_followed p.below q.below)))));
       }
 
-  branch_first : (x : Made) (a b : List ℕ) (m n : List Made) (p q : Placed) → vars_of x.body ≡ a → x.named ≡ a ++ vars_made m → Names a m p → Names b n q →
-      Names b (x ∷ (m ++ n)) (joined (started p) q)
+  branch_first : (x : Made) (a b : List ℕ) (m n : List Made) (p q : ThreadPart) → vars_of x.body ≡ a → x.named ≡ a ++ vars_made m → Names a m p → Names b n q →
+      Names b (x ∷ (m ++ n)) (both_parts (as_instance p) q)
   branch_first x a b m n p q e d y z =
       let both = named.same_append text j g is_item changes nth is_one a (vars_made m) p.named (all_named p.below) y.own y.all in
       record {
@@ -129,7 +129,7 @@ module _ (text : Text) (names : List (List ℕ)) (g : PlainGlobal) (is_item : fi
             ∙ (ap (λ l. map tree_named (in_preorder p.below) ++ l) z.each ∙ sym (map-append tree_named (in_preorder p.below) (in_preorder q.below)))));
       }
 
-  module _ (called : ℕ → Inlined) (tree : ℕ → Placed)
+  module _ (called : ℕ → Inlined) (tree : ℕ → ThreadPart)
       (right : (id first t : ℕ) (n : NextNumbers) → ((f : PlainFunction) → find_function id text ≡ Some f → f.gives ≡ false) →
       Names (vars_of (called id first t n).stmt) (called id first t n).made (tree id))
     where
@@ -170,18 +170,18 @@ module _ (text : Text) (names : List (List ℕ)) (g : PlainGlobal) (is_item : fi
       step_vars x t s n absent body = refl
       step_vars x t s n (present a) body = swapped_in x (vars_of body) (vars_of (lower_statement text called t s n a).stmt)
 
-      tested : (sc : Scope) (s : List Slot) → Agree sc s → (e : Term) → findings_faults j (in_term text sc e) ≡ [] → Names (vars_in (lower_term text s e)) [] (naming (in_term text sc e))
+      tested : (sc : Scope) (s : List Slot) → Agree sc s → (e : Term) → findings_faults j (in_term text sc e) ≡ [] → Names (vars_in (lower_term text s e)) [] (naming_part (in_term text sc e))
       tested sc s m e h = leaf (vars_in (lower_term text s e)) (globals_in (in_term text sc e)) (named.term_names text j g is_item changes nth is_one sc s m e h)
 
-      as_one_names : (l : Listed) (p : Placed) → Names (vars_list l.list) l.made p → Names (vars_of (sequence l.list)) l.made p
+      as_one_names : (l : Listed) (p : ThreadPart) → Names (vars_list l.list) l.made p → Names (vars_of (sequence l.list)) l.made p
       as_one_names l p h = alike (vars_list l.list) (vars_of (sequence l.list)) l.made p (ap (is_in v) (sequence_vars l.list)) h
 
       mutual
         one : (t : ℕ) (s : List Slot) (n : NextNumbers) (sc : Scope) (a : Statement) → Agree sc s → OneEach a → findings_faults j (in_statement text sc a) ≡ [] →
-            Names (vars_of (lower_statement text called t s n a).stmt) (lower_statement text called t s n a).made (placed text tree sc a)
+            Names (vars_of (lower_statement text called t s n a).stmt) (lower_statement text called t s n a).made (statement_part text tree sc a)
         one t s n sc (Nothing at) m o h = leaf [] [] refl
         one t s n sc (Group at body) m o h =
-            as_one_names (lower_list text called t s n body) (all_placed text tree (entered sc) body) (every t s n (entered sc) body (entered_agree sc s m) o h)
+            as_one_names (lower_list text called t s n body) (all_placed text tree (inner_scope sc) body) (every t s n (inner_scope sc) body (entered_agree sc s m) o h)
         one t s n sc (Declare at locals) m o h =
             leaf (vars_of (sequence (lower_locals text s n.slot locals))) (globals_in (in_locals text sc locals))
             (ap (is_in v) (sequence_vars (lower_locals text s n.slot locals)) ∙ (named.locals_names text j g is_item changes nth is_one sc s m n.slot locals o h).0)
@@ -193,34 +193,34 @@ module _ (text : Text) (names : List (List ℕ)) (g : PlainGlobal) (is_item : fi
             let sets = set_params text s n.slot args in
             let next = from_slot n (n.slot + count_terms args) in
             let l = called name.id n.slot t next in
-            alike (vars_list sets ++ vars_of l.stmt) (vars_of (sequence (ends_with sets l.stmt))) l.made (joined (naming (in_terms text sc args)) (tree name.id))
+            alike (vars_list sets ++ vars_of l.stmt) (vars_of (sequence (ends_with sets l.stmt))) l.made (both_parts (naming_part (in_terms text sc args)) (tree name.id))
             (ap (is_in v) (sequence_vars (ends_with sets l.stmt) ∙ ends_vars sets l.stmt))
-            (two (vars_list sets) (vars_of l.stmt) [] l.made (naming (in_terms text sc args)) (tree name.id)
+            (two (vars_list sets) (vars_of l.stmt) [] l.made (naming_part (in_terms text sc args)) (tree name.id)
             (leaf (vars_list sets) (globals_in (in_terms text sc args))
             (named.sets_names text j g is_item changes nth is_one sc s m n.slot args (none_right own (findings_faults j (in_terms text sc args)) h)))
             (right name.id n.slot t next (runs_void (count_terms args) sc name (none_left own (findings_faults j (in_terms text sc args)) h))))
         one t s n sc (If at test a b) m o h =
             let l = lower_statement text called t s n a in
-            let sides = in_statement text (entered sc) a ++ in_perhaps text (entered sc) b in
+            let sides = in_statement text (inner_scope sc) a ++ in_perhaps text (inner_scope sc) b in
             let hs = parts_right j (in_term text sc test) sides h in
-            two (vars_in (lower_term text s test)) _ [] _ (naming (in_term text sc test)) _ (tested sc s m test (parts_left j (in_term text sc test) sides h))
+            two (vars_in (lower_term text s test)) _ [] _ (naming_part (in_term text sc test)) _ (tested sc s m test (parts_left j (in_term text sc test) sides h))
             (two _ _ _ _ _ _
-            (one t s n (entered sc) a (entered_agree sc s m) o.0 (parts_left j (in_statement text (entered sc) a) (in_perhaps text (entered sc) b) hs))
-            (maybe t s l.next (entered sc) b (entered_agree sc s m) o.1 (parts_right j (in_statement text (entered sc) a) (in_perhaps text (entered sc) b) hs)))
+            (one t s n (inner_scope sc) a (entered_agree sc s m) o.0 (parts_left j (in_statement text (inner_scope sc) a) (in_perhaps text (inner_scope sc) b) hs))
+            (maybe t s l.next (inner_scope sc) b (entered_agree sc s m) o.1 (parts_right j (in_statement text (inner_scope sc) a) (in_perhaps text (inner_scope sc) b) hs)))
         one t s n sc (While at test bound body) m o h =
-            let rest = in_term text sc test ++ in_statement text (entered sc) body in
+            let rest = in_term text sc test ++ in_statement text (inner_scope sc) body in
             let hs = parts_right j (in_bound bound) rest h in
-            two (vars_in (lower_term text s test)) _ [] _ (naming (in_term text sc test)) _ (tested sc s m test (parts_left j (in_term text sc test) (in_statement text (entered sc) body) hs))
-            (one t s n (entered sc) body (entered_agree sc s m) o (parts_right j (in_term text sc test) (in_statement text (entered sc) body) hs))
+            two (vars_in (lower_term text s test)) _ [] _ (naming_part (in_term text sc test)) _ (tested sc s m test (parts_left j (in_term text sc test) (in_statement text (inner_scope sc) body) hs))
+            (one t s n (inner_scope sc) body (entered_agree sc s m) o (parts_right j (in_term text sc test) (in_statement text (inner_scope sc) body) hs))
         one t s n sc (For at start test step bound body) m o h =
             let inside = scope_after_perhaps text s n.slot start in
             let li = lower_perhaps text called t s n start in
             let lj = lower_perhaps text called t inside li.next step in
             let last = scope_after_perhaps text inside li.next.slot step in
             let ll = lower_statement text called t last lj.next body in
-            let own = after_perhaps (entered sc) start in
-            let end_ = entered (after_perhaps own step) in
-            let f1 = in_perhaps text (entered sc) start in
+            let own = after_perhaps (inner_scope sc) start in
+            let end_ = inner_scope (after_perhaps own step) in
+            let f1 = in_perhaps text (inner_scope sc) start in
             let f2 = in_optional text own test in
             let f3 = in_perhaps text own step in
             let f4 = in_statement text end_ body in
@@ -231,17 +231,17 @@ module _ (text : Text) (names : List (List ℕ)) (g : PlainGlobal) (is_item : fi
             let r2 = parts_right j f2 (f3 ++ f4) r1 in
             let h3 = parts_left j f3 f4 r2 in
             let h4 = parts_right j f3 f4 r2 in
-            let m1 = perhaps_agree (entered sc) s n.slot start (entered_agree sc s m) o.0 h1 in
+            let m1 = perhaps_agree (inner_scope sc) s n.slot start (entered_agree sc s m) o.0 h1 in
             let m2 = perhaps_agree own inside li.next.slot step m1 o.1 h3 in
             let test' = optional_test text inside test in
             let loop = (lower_statement text called t s n (For at start test step bound body)).stmt in
             let body' = then_step step ll.stmt lj.stmt in
-            alike (vars_of li.stmt ++ (vars_in test' ++ (vars_of lj.stmt ++ vars_of ll.stmt))) (vars_of loop) (li.made ++ (lj.made ++ ll.made)) (placed text tree sc (For at start test step bound body))
+            alike (vars_of li.stmt ++ (vars_in test' ++ (vars_of lj.stmt ++ vars_of ll.stmt))) (vars_of loop) (li.made ++ (lj.made ++ ll.made)) (statement_part text tree sc (For at start test step bound body))
             (ap (is_in v) (start_vars t s n start _)
             ∙ behind_same v (vars_of li.stmt) (vars_in test' ++ vars_of body') (vars_in test' ++ (vars_of lj.stmt ++ vars_of ll.stmt))
             (behind_same v (vars_in test') (vars_of body') (vars_of lj.stmt ++ vars_of ll.stmt) (step_vars v t inside li.next step ll.stmt)))
-            (two _ _ _ _ _ _ (maybe t s n (entered sc) start (entered_agree sc s m) o.0 h1)
-            (two (vars_in test') _ [] _ (naming f2) _ (leaf (vars_in test') (globals_in f2) (named.optional_names text j g is_item changes nth is_one own inside m1 test h2))
+            (two _ _ _ _ _ _ (maybe t s n (inner_scope sc) start (entered_agree sc s m) o.0 h1)
+            (two (vars_in test') _ [] _ (naming_part f2) _ (leaf (vars_in test') (globals_in f2) (named.optional_names text j g is_item changes nth is_one own inside m1 test h2))
             (two _ _ _ _ _ _ (maybe t inside li.next own step m1 o.1 h3) (one t last lj.next end_ body (entered_agree (after_perhaps own step) last m2) o.2 h4))))
         one t s n sc (Pause at) m o h = leaf [] [] refl
         one t s n sc (Par at bs) m o h =
@@ -250,10 +250,10 @@ module _ (text : Text) (names : List (List ℕ)) (g : PlainGlobal) (is_item : fi
             alike (vars_launches l.launches) (vars_of (par_of l.launches)) l.made (branches_placed text tree sc bs) (ap (is_in v) (launches_vars l.launches))
             (branches t s n.par from sc bs m o (none_right (fault_if j.gives at 12) (findings_faults j (in_branches text sc bs)) h))
         one t s n sc (Abort at weak immediate test body) m o h =
-            let rest = in_statements text (entered sc) body in
+            let rest = in_statements text (inner_scope sc) body in
             let hs = none_right (fault_if j.gives at 12) (findings_faults j (in_term text sc test ++ rest)) h in
-            two (vars_in (lower_term text s test)) _ [] _ (naming (in_term text sc test)) _ (tested sc s m test (parts_left j (in_term text sc test) rest hs))
-            (as_one_names (lower_list text called t s n body) (all_placed text tree (entered sc) body) (every t s n (entered sc) body (entered_agree sc s m) o (parts_right j (in_term text sc test) rest hs)))
+            two (vars_in (lower_term text s test)) _ [] _ (naming_part (in_term text sc test)) _ (tested sc s m test (parts_left j (in_term text sc test) rest hs))
+            (as_one_names (lower_list text called t s n body) (all_placed text tree (inner_scope sc) body) (every t s n (inner_scope sc) body (entered_agree sc s m) o (parts_right j (in_term text sc test) rest hs)))
         one t s n sc (Return at value) m o h = tested sc s m value (none_right (fault_if (not j.gives) at 14) (findings_faults j (in_term text sc value)) h)
 
         every : (t : ℕ) (s : List Slot) (n : NextNumbers) (sc : Scope) (list : Statements) → Agree sc s → OneInAll list → findings_faults j (in_statements text sc list) ≡ [] →
@@ -281,7 +281,7 @@ module _ (text : Text) (names : List (List ℕ)) (g : PlainGlobal) (is_item : fi
             let own = use_faults j (Starts (count_terms args)) name (meaning text sc name.id) in
             let fs = in_terms text sc args ++ in_branches text sc rest in
             let hs = none_right own (findings_faults j fs) h in
-            two (vars_all (lower_terms text s args)) _ [] _ (naming (in_terms text sc args)) _
+            two (vars_all (lower_terms text s args)) _ [] _ (naming_part (in_terms text sc args)) _
             (leaf (vars_all (lower_terms text s args)) (globals_in (in_terms text sc args)) (named.terms_names text j g is_item changes nth is_one sc s m args (parts_left j (in_terms text sc args) (in_branches text sc rest) hs)))
             (branch_first _ (vars_of b.stmt) _ b.made _ (tree name.id) _ refl refl
             (right name.id 0 n.thread inner (starts_void (count_terms args) sc name (none_left own (findings_faults j fs) h)))
@@ -320,11 +320,11 @@ module _ (text : Text) (names : List (List ℕ)) (g : PlainGlobal) (is_item : fi
     where
       in_turn : (deep id first t : ℕ) (n : NextNumbers) → ((f : PlainFunction) → find_function id text ≡ Some f → f.gives ≡ false) →
           Names (vars_of (within nothing_inlined (inlined_step text) deep id first t n).stmt) (within nothing_inlined (inlined_step text) deep id first t n).made
-          (within nothing (placed_step text) deep id)
+          (within no_part (placed_step text) deep id)
       unfolding within
       in_turn zero id first t n void = leaf [] [] refl
       in_turn (suc deep) id first t n void =
-          in_body (within nothing_inlined (inlined_step text) deep) (within nothing (placed_step text) deep) (in_turn deep) (find_function id text) first t n
+          in_body (within nothing_inlined (inlined_step text) deep) (within no_part (placed_step text) deep) (in_turn deep) (find_function id text) first t n
           (λ f e. faultless id f e (void f e)) (λ f e. ones id f e)
 
 -- ---- the same at each place
@@ -338,8 +338,8 @@ pointwise f h (x ∷ xs) (y ∷ ys) e (suc a) l = let rest : map f xs ≡ map h 
 -- ---- the law
 
 module _ (text : Text) (names : List (List ℕ)) (clean : Clean text names) (one_each : ScalarsHaveOneValue text) where
-  abbrev tree : Placed
-  tree = within nothing (placed_step text) (length text) (main_id text names)
+  abbrev tree : ThreadPart
+  tree = within no_part (placed_step text) (length text) (main_id text names)
 
   ones : (id : ℕ) (f : PlainFunction) → find_function id text ≡ Some f → OneInAll f.body
   ones id f e = one_each f (found_member id text (IsFunction f) (function_item id text f e))

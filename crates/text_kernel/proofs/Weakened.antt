@@ -45,10 +45,10 @@ pub uses_hold : (xs named all : List ℕ) → ((v : ℕ) → is_in v xs ≡ true
 uses_hold xs named all w = record { keep = λ v e f. filter_holds v named all (w v e) f }
 
 module _ (k : PlainKernel) (words : ℕ) (all uses : List ℕ) where
-  abbrev wide : wf.Scope
+  abbrev wide : wf.TermScope
   wide = record { kernel = k; words = words; uses = all }
 
-  abbrev narrow : wf.Scope
+  abbrev narrow : wf.TermScope
   narrow = record { kernel = k; words = words; uses = uses }
 
   array : (slot n : ℕ) → IsArray wide slot n → IsArray narrow slot n

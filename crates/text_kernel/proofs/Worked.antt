@@ -7,10 +7,10 @@ use Rattle.forec_tree.specs.declared.tree.Name.{Name}
 use Rattle.forec_tree.specs.declared.tree.Number.{Number}
 use Rattle.forec_tree.specs.declared.tree.OpAt.{OpAt}
 use Rattle.forec_tree.specs.declared.tree.GlobalKind.TheVariants.{Input, Output, Plain, SharedOutput}
-use Rattle.forec_tree.specs.Terms.{Num, Read, Element, Bin, no_terms, more_terms, Written, Declare, Assign, Invoke, While, For, Group, Pause, Par, Abort, Return, Statements, no_statements, more_statements, present, no_branches, by_call, by_group, Text, PlainItem, IsGlobal, IsFunction}
+use Rattle.forec_tree.specs.Terms.{Num, Read, Element, Bin, no_terms, more_terms, PlainTarget, Declare, Assign, Invoke, While, For, Group, Pause, Par, Abort, Return, Statements, no_statements, more_statements, present, no_branches, by_call, by_group, Text, PlainItem, IsGlobal, IsFunction}
 use Rattle.forec_tree.specs.Pauses.{within}
 use Rattle.forec_tree.specs.Threads.{instances}
-use Rattle.forec_tree.specs.Turns.{run_of, is_i32}
+use Rattle.forec_tree.specs.Turns.{values_passed, is_i32}
 use Rattle.forec_tree.proofs.Runs.{value_at, run_is}
 use Rattle.std.specs.Prelude.{int_lt}
 use Rattle.std.specs.Fmt.{digits}
@@ -147,7 +147,7 @@ p3_instances = refl
 abbrev p4_names : List (List ℕ)
 p4_names = codes "o" ∷ codes "main" ∷ codes "i" ∷ []
 
-abbrev to : ℕ → Written
+abbrev to : ℕ → PlainTarget
 to id = record { name = name id; index = None }
 
 abbrev add : OpAt
@@ -185,7 +185,7 @@ fits_four (suc (suc (suc zero))) l = refl
 fits_four (suc (suc (suc (suc zero)))) l = refl
 fits_four (suc (suc (suc (suc (suc k))))) l = absurd (omega arith)
 
-p4_turns : run_of 1000001 (λ v. int_lt v (pos 4)) (pos 1) (pos 0) ≡ Some 4
+p4_turns : values_passed 1000001 (λ v. int_lt v (pos 4)) (pos 1) (pos 0) ≡ Some 4
 p4_turns = run_is 1000001 (λ v. int_lt v (pos 4)) (pos 1) (pos 0) 4 (omega arith) (record { pass = passes_four; fails = refl; fit = fits_four })
 
 abbrev p4_body : Option ℕ → Stmt
@@ -287,7 +287,7 @@ p8_names = codes "o" ∷ codes "h" ∷ codes "c" ∷ codes "plus" ∷ codes "x" 
 abbrev task : ℕ → Statements → PlainItem
 task id body = IsFunction (record { name = name id; gives = false; params = []; body = body })
 
-abbrev h_at : ℤ → Written
+abbrev h_at : ℤ → PlainTarget
 h_at i = record { name = name 1; index = Some (Num p i) }
 
 abbrev p8 : Text

@@ -34,9 +34,9 @@ find_slot id found (s ∷ rest) = find_slot id (cond (s.id == id) (Some s) found
 abbrev pub local_slot : ℕ → Declared → Slot
 local_slot slot l = record { id = l.name.id; slot = slot; size = size_of l.length }
 
-abbrev pub with_locals : List Slot → ℕ → List Declared → List Slot
-with_locals s slot [] = s
-with_locals s slot (l ∷ rest) = with_locals (s ++ local_slot slot l ∷ []) (slot + slots_of l.length) rest
+abbrev pub with_local_slots : List Slot → ℕ → List Declared → List Slot
+with_local_slots s slot [] = s
+with_local_slots s slot (l ∷ rest) = with_local_slots (s ++ local_slot slot l ∷ []) (slot + slots_of l.length) rest
 
 abbrev pub params_at : ℕ → List Name → List Slot
 params_at slot [] = []

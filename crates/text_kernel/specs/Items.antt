@@ -47,21 +47,21 @@ function_in (Some r) = Some (plain_function r.now)
 abbrev pub IsVariable : Option (Bor Global) → PlainItem → Type 0
 IsVariable r i = global_in r ≡ variable_in i
 
-abbrev pub IsInt : Option (Bor Function) → PlainItem → Type 0
-IsInt r i = function_in r ≡ int_in i
+abbrev pub IsIntFunctionOf : Option (Bor Function) → PlainItem → Type 0
+IsIntFunctionOf r i = function_in r ≡ int_in i
 
 -- the constant array that an item declares
 abbrev pub array_in : PlainItem → Option PlainGlobal
 array_in (IsFunction f) = None
 array_in (IsGlobal g) = cond (is_constant g.kind && is_some g.length) (Some g) None
 
-abbrev pub listed : {A : Type 0} → Option A → List A
-listed None = []
-listed (Some x) = x ∷ []
+abbrev pub option_list : {A : Type 0} → Option A → List A
+option_list None = []
+option_list (Some x) = x ∷ []
 
 abbrev pub array_items : List PlainItem → List PlainGlobal
 array_items [] = []
-array_items (i ∷ rest) = listed (array_in i) ++ array_items rest
+array_items (i ∷ rest) = option_list (array_in i) ++ array_items rest
 
 abbrev pub array_length : PlainGlobal → ℕ
 array_length g = elim g.length [ None ↦ 0 | Some n ↦ number_of n ]
@@ -69,5 +69,5 @@ array_length g = elim g.length [ None ↦ 0 | Some n ↦ number_of n ]
 abbrev pub array_table : PlainGlobal → List ℤ
 array_table g = padded (array_length g) g.values
 
-abbrev pub IsArray : Option (Bor Global) → PlainItem → Type 0
-IsArray r i = global_in r ≡ array_in i
+abbrev pub IsArrayOf : Option (Bor Global) → PlainItem → Type 0
+IsArrayOf r i = global_in r ≡ array_in i

@@ -11,7 +11,7 @@ use Rattle.forec_tree.specs.declared.tree.Number.{Number}
 use Rattle.forec_tree.specs.declared.tree.GlobalKind.{GlobalKind}
 use Rattle.forec_tree.specs.Terms.{Text, PlainGlobal, PlainFunction, IsGlobal, IsFunction}
 use Rattle.forec_tree.specs.Variables.{PlainVariable, variables, count_variables}
-use Rattle.forec_tree.specs.Rules.{bytes_of, is_constant, is_input, is_output}
+use Rattle.forec_tree.specs.Rules.{spelling_of_name, is_constant, is_input, is_output}
 use Rattle.forec_tree.specs.Faults.{start_name, is_in}
 use Rattle.text_kernel.specs.Bindings.{params_at, number_of, number_among, is_int_function, first_value, nth_value}
 use Rattle.text_kernel.specs.Lowering.{Made, Lowered, Listed, lowered, sequence, lower_list, inlined}
@@ -35,7 +35,7 @@ element_name name None = name
 element_name name (Some i) = name ++ codes "[" ++ decimal i ++ codes "]"
 
 abbrev pub variable_name : List (List ℕ) → PlainVariable → List ℕ
-variable_name names v = element_name (bytes_of names v.global.name.id) v.index
+variable_name names v = element_name (spelling_of_name names v.global.name.id) v.index
 
 module _ (text : Text) (names : List (List ℕ)) where
   abbrev pub variable_count : ℕ
@@ -45,13 +45,13 @@ module _ (text : Text) (names : List (List ℕ)) where
   policy_of None = Mod
   policy_of (Some c) = c.policy
 
-  abbrev pub combine_of : Option Combine → Option ℕ
-  combine_of None = None
-  combine_of (Some c) = Some (number_among is_int_function c.with.id text)
+  abbrev pub combine_function : Option Combine → Option ℕ
+  combine_function None = None
+  combine_function (Some c) = Some (number_among is_int_function c.with.id text)
 
   abbrev pub variable_shape : PlainVariable → Variable
   variable_shape v =
-      record { policy = policy_of v.global.combine; combine = combine_of v.global.combine; start = initial_value v; input = is_input v.global.kind }
+      record { policy = policy_of v.global.combine; combine = combine_function v.global.combine; start = initial_value v; input = is_input v.global.kind }
 
   abbrev pub numbers_of : (GlobalKind → Bool) → ℕ → List PlainVariable → List ℕ
   numbers_of sort n [] = []
@@ -67,8 +67,8 @@ module _ (text : Text) (names : List (List ℕ)) where
 
   -- ---- int functions
 
-  abbrev pub function_body : PlainFunction → Listed
-  function_body f =
+  abbrev pub lowered_function_body : PlainFunction → Listed
+  lowered_function_body f =
       lower_list text (λ id first t n. lowered (sequence (Rattle.forec_kernel.specs.Terms.no_stmts)) n) 0 (params_at 0 f.params)
       (record { slot = length f.params; thread = 1; par = 0 }) f.body
 
@@ -89,7 +89,7 @@ module _ (text : Text) (names : List (List ℕ)) where
 
   abbrev pub name_bytes : Option ℕ → Option (List ℕ)
   name_bytes None = None
-  name_bytes (Some id) = Some (bytes_of names id)
+  name_bytes (Some id) = Some (spelling_of_name names id)
 
   abbrev pub thread_shape : Made → PlainThread
   thread_shape m =
@@ -100,7 +100,7 @@ module _ (text : Text) (names : List (List ℕ)) where
       record {
         parent = None;
         par = None;
-        name = Some (bytes_of names main_id);
+        name = Some (spelling_of_name names main_id);
         params = 0;
         words = root.next.slot;
         uses = count_up 0 variable_count;
@@ -111,7 +111,7 @@ module _ (text : Text) (names : List (List ℕ)) where
       record {
         threads = root_shape ∷ map thread_shape root.made;
         variables = map variable_shape (variables text);
-        functions = map (λ f. record { params = length f.params; words = (function_body f).next.slot }) (int_functions text);
+        functions = map (λ f. record { params = length f.params; words = (lowered_function_body f).next.slot }) (int_functions text);
         tables = tables_of text;
         inputs = numbers_of is_input 0 (variables text);
         outputs = numbers_of is_output 0 (variables text);
@@ -124,5 +124,5 @@ module _ (text : Text) (names : List (List ℕ)) where
       record {
         shape = shape_of;
         threads = root.stmt ∷ map (λ m. m.body) root.made;
-        functions = map (λ f. sequence (function_body f).list) (int_functions text);
+        functions = map (λ f. sequence (lowered_function_body f).list) (int_functions text);
       }

@@ -44,17 +44,17 @@ earlier Tables = Threads ∷ Words ∷ Globals ∷ []
 earlier Terms = Threads ∷ Words ∷ Globals ∷ Tables ∷ []
 earlier Depth = Threads ∷ Words ∷ Globals ∷ Tables ∷ Terms ∷ []
 
-abbrev pub Fits : PlainKernel → Quantity → Type 0
-Fits k q = amount q k ≤ limit_of q
+abbrev pub IsWithinLimit : PlainKernel → Quantity → Type 0
+IsWithinLimit k q = amount q k ≤ limit_of q
 
 -- `Ok` comes where this holds, or memory is wanting
 abbrev pub WithinLimits : PlainKernel → Type 0
-WithinLimits k = (q : Quantity) → Fits k q
+WithinLimits k = (q : Quantity) → IsWithinLimit k q
 
 -- `Limit { what, count }`
 pub record IsLimit (text : Text) (names : List (List ℕ)) (what : Quantity) (count : ℕ) : Type 0 where
   pub passes : limit_of what < amount what (kernel_of text names)
-  pub first : (q : Quantity) → Member q (earlier what) → Fits (kernel_of text names) q
+  pub first : (q : Quantity) → Member q (earlier what) → IsWithinLimit (kernel_of text names) q
   pub is : count ≡ limit_of what
 
 -- the words of the widest thread, apart from those of the functions that it calls

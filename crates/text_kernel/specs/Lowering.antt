@@ -10,11 +10,11 @@ use Rattle.forec_kernel.specs.WellFormed.{can_divide, count_up}
 use Rattle.forec_tree.specs.declared.tree.Name.{Name}
 use Rattle.forec_tree.specs.declared.tree.Number.{Number}
 use Rattle.forec_tree.specs.declared.tree.OpAt.{OpAt}
-use Rattle.forec_tree.specs.Terms.{Term, Num, Read, Element, Un, Bin, And, Or, Choose, Call, Terms, no_terms, more_terms, count_terms, Declared, Written, Statement, Declare, Nothing, Group, Assign, Invoke, If, While, For, Pause, Par, Abort, Return, Statements, no_statements, more_statements, Perhaps, absent, present, Branches, no_branches, by_call, by_group, Text, PlainFunction}
+use Rattle.forec_tree.specs.Terms.{Term, Num, Read, Element, Un, Bin, And, Or, Choose, Call, Terms, no_terms, more_terms, count_terms, Declared, PlainTarget, Statement, Declare, Nothing, Group, Assign, Invoke, If, While, For, Pause, Par, Abort, Return, Statements, no_statements, more_statements, Perhaps, absent, present, Branches, no_branches, by_call, by_group, Text, PlainFunction}
 use Rattle.forec_tree.specs.Scopes.{find_item}
 use Rattle.forec_tree.specs.Turns.{inferred}
 use Rattle.forec_tree.specs.Pauses.{within, find_function}
-use Rattle.text_kernel.specs.Bindings.{number_of, slots_of, find_slot, with_locals, params_at, is_int_function, number_among, slot_stands, item_stands}
+use Rattle.text_kernel.specs.Bindings.{number_of, slots_of, find_slot, with_local_slots, params_at, is_int_function, number_among, slot_stands, item_stands}
 use Rattle.text_kernel.specs.declared.names.Slot.{Slot}
 use Rattle.text_kernel.specs.declared.names.Stands.{Stands}
 use Rattle.text_kernel.specs.declared.names.Stands.TheVariants as st
@@ -70,9 +70,9 @@ ends_with no_stmts a = more_stmts a no_stmts
 ends_with (more_stmts b rest) a = more_stmts b (ends_with rest a)
 
 -- one list after another
-abbrev pub joined : Stmts → Stmts → Stmts
-joined no_stmts b = b
-joined (more_stmts a rest) b = more_stmts a (joined rest b)
+abbrev pub joined_stmts : Stmts → Stmts → Stmts
+joined_stmts no_stmts b = b
+joined_stmts (more_stmts a rest) b = more_stmts a (joined_stmts rest b)
 
 -- ---- statements
 
@@ -171,25 +171,25 @@ vars_made [] = []
 vars_made (m ∷ rest) = vars_of m.body ++ vars_made rest
 
 -- a thread, before those below it
-abbrev pub thread_of : ℕ → ℕ → Option ℕ → ℕ → Lowered → List Made
-thread_of parent par name params l =
+abbrev pub made_thread : ℕ → ℕ → Option ℕ → ℕ → Lowered → List Made
+made_thread parent par name params l =
     record { parent = parent; par = par; name = name; params = params; words = l.next.slot; behind = l.next.thread; body = l.stmt; named = vars_of l.stmt ++ vars_made l.made } ∷ l.made
 
-abbrev pub operated : Option OpAt → Expr → Expr → Expr
-operated None old value = value
-operated (Some o) old value = kernel.Bin o.op old value (place_if o.op o.place)
+abbrev pub operated_expr : Option OpAt → Expr → Expr → Expr
+operated_expr None old value = value
+operated_expr (Some o) old value = kernel.Bin o.op old value (place_if o.op o.place)
 
 abbrev pub assign_to : Stands → Option OpAt → Expr → Stmt
-assign_to (st.AtSlot slot) op value = kernel.Set (spot.Local slot) (operated op (kernel.Local slot) value)
-assign_to (st.AsVariable v) op value = kernel.Set (spot.Variable v) (operated op (kernel.Var v) value)
-assign_to _ op value = kernel.Set (spot.Local 0) (operated op (kernel.Num (pos 0)) value)
+assign_to (st.AtSlot slot) op value = kernel.Set (spot.Local slot) (operated_expr op (kernel.Local slot) value)
+assign_to (st.AsVariable v) op value = kernel.Set (spot.Variable v) (operated_expr op (kernel.Var v) value)
+assign_to _ op value = kernel.Set (spot.Local 0) (operated_expr op (kernel.Num (pos 0)) value)
 
 abbrev pub assign_at : Stands → Option OpAt → Expr → Expr → Place → Stmt
 assign_at (st.AtSlots slot size) op i value place =
-    kernel.SetAt slot size i (operated op (kernel.LocalAt slot size i place) value) place
+    kernel.SetAt slot size i (operated_expr op (kernel.LocalAt slot size i place) value) place
 assign_at (st.AsVariables v n) op i value place =
-    kernel.PutAt v n i (operated op (kernel.SharedAt v n i place) value) place
-assign_at _ op i value place = kernel.SetAt 0 0 i (operated op (kernel.LocalAt 0 0 i place) value) place
+    kernel.PutAt v n i (operated_expr op (kernel.SharedAt v n i place) value) place
+assign_at _ op i value place = kernel.SetAt 0 0 i (operated_expr op (kernel.LocalAt 0 0 i place) value) place
 
 abbrev pub bound_of : Option Number → Option ℕ
 bound_of None = None
@@ -223,9 +223,9 @@ par_after no_branches p = p
 par_after (by_call name args rest) p = suc p
 par_after (by_group at body rest) p = suc p
 
-abbrev pub params_of : Option PlainFunction → List Name
-params_of None = []
-params_of (Some f) = f.params
+abbrev pub param_names : Option PlainFunction → List Name
+param_names None = []
+param_names (Some f) = f.params
 
 module _ (text : Text) where
   abbrev pub array_values : List Slot → ℕ → ℕ → ℕ → Terms → Place → Stmts
@@ -241,7 +241,7 @@ module _ (text : Text) where
 
   abbrev pub lower_locals : List Slot → ℕ → List Declared → Stmts
   lower_locals s slot [] = no_stmts
-  lower_locals s slot (l ∷ rest) = more_stmts (lower_local s slot l) (lower_locals (with_locals s slot (l ∷ [])) (slot + slots_of l.length) rest)
+  lower_locals s slot (l ∷ rest) = more_stmts (lower_local s slot l) (lower_locals (with_local_slots s slot (l ∷ [])) (slot + slots_of l.length) rest)
 
   abbrev pub slots_after : ℕ → List Declared → ℕ
   slots_after slot [] = slot
@@ -249,7 +249,7 @@ module _ (text : Text) where
 
   -- the scope after a statement
   abbrev pub scope_after : List Slot → ℕ → Statement → List Slot
-  scope_after s slot (Declare at locals) = with_locals s slot locals
+  scope_after s slot (Declare at locals) = with_local_slots s slot locals
   scope_after s slot _ = s
 
   abbrev pub scope_after_perhaps : List Slot → ℕ → Perhaps → List Slot
@@ -265,7 +265,7 @@ module _ (text : Text) where
   optional_test s None = kernel.Num (pos 1)
   optional_test s (Some e) = lower_term text s e
 
-  abbrev pub lower_target : List Slot → Written → Option OpAt → Expr → Stmt
+  abbrev pub lower_target : List Slot → PlainTarget → Option OpAt → Expr → Stmt
   lower_target s t op value = elim t.index [
     | None ↦ assign_to (stands text s t.name.id) op value
     | Some i ↦ assign_at (stands text s t.name.id) op (lower_term text s i) value t.name.place
@@ -335,7 +335,7 @@ module _ (text : Text) (called : ℕ → Inlined) where
         record {
           launches = record { thread = n.thread; args = lower_terms text s args } ∷ m.launches;
           next = m.next;
-          made = thread_of t p (Some name.id) (length (params_of (find_function name.id text))) b ++ m.made;
+          made = made_thread t p (Some name.id) (length (param_names (find_function name.id text))) b ++ m.made;
         }
     lower_branches t s p n (by_group at body rest) =
         let l = lower_list n.thread [] (record { slot = 0; thread = suc n.thread; par = n.par }) body in
@@ -343,7 +343,7 @@ module _ (text : Text) (called : ℕ → Inlined) where
         record {
           launches = record { thread = n.thread; args = no_exprs } ∷ m.launches;
           next = m.next;
-          made = thread_of t p None 0 (as_one l) ++ m.made;
+          made = made_thread t p None 0 (as_one l) ++ m.made;
         }
 
 abbrev pub inlined_body : Text → (ℕ → Inlined) → Option PlainFunction → Inlined

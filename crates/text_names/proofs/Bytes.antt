@@ -4,7 +4,7 @@ use Rattle.std.specs.List.{AllByRecursion}
 use Rattle.std.specs.Fmt.{digits, digits_onto, digit_glyph}
 use Rattle.std.proofs.lemmas.Bool.{agree_below_at}
 use Rattle.std.proofs.lemmas.Bool.Decides.{nat_tests}
-use Rattle.forec_tree.specs.Lexis.{is_letter, is_digit, goes_on, Each, IsName}
+use Rattle.forec_tree.specs.Lexis.{is_letter, is_digit, continues_name, Each, IsName}
 use Rattle.text_names.specs.Names.{is_plain_byte, IsPlainName, is_safe_byte, IsSafeName, IsVariableName, whole_name, array_element, names_by_number}
 
 -- ---- lists
@@ -25,18 +25,18 @@ module _ {X : Type 0} (P : X → Type 0) where
 
 -- ---- a plain name
 
-plain_goes_on : (b : ℕ) → goes_on b ≡ true → is_plain_byte b ≡ true
-plain_goes_on b h = by (goes_on b) h
+plain_goes_on : (b : ℕ) → continues_name b ≡ true → is_plain_byte b ≡ true
+plain_goes_on b h = by (continues_name b) h
   where
     by : (t : Bool) → t ≡ true → (t || (b == 91 || b == 93)) ≡ true
     by true e = refl
     by false e = absurd cc
 
-each_plain : (bs : List ℕ) → Each goes_on bs → IsPlainName bs
+each_plain : (bs : List ℕ) → Each continues_name bs → IsPlainName bs
 each_plain [] h = tt
 each_plain (b ∷ bs) h = (plain_goes_on b h.0, each_plain bs h.1)
 
-letter_goes_on : (b : ℕ) → is_letter b ≡ true → goes_on b ≡ true
+letter_goes_on : (b : ℕ) → is_letter b ≡ true → continues_name b ≡ true
 letter_goes_on b h = by (is_letter b) h
   where
     by : (t : Bool) → t ≡ true → (t || is_digit b) ≡ true

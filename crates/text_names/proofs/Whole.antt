@@ -9,7 +9,7 @@ use Rattle.forec_tree.specs.declared.tree.Number.{Number}
 use Rattle.forec_tree.specs.declared.token.Token.{Token}
 use Rattle.forec_tree.specs.Faults.{Member, here, later}
 use Rattle.forec_tree.specs.Lexis.{IsName}
-use Rattle.forec_tree.specs.LexedText.{IsLexed, IsSpelt, IsNumbered, bytes_of}
+use Rattle.forec_tree.specs.LexedText.{IsLexed, IsSpelt, IsNumbered, token_bytes}
 use Rattle.forec_tree.specs.Scopes.{is_constant, stated_length}
 use Rattle.forec_tree.specs.SpelledPrograms.{IsSpelled}
 use Rattle.forec_tree.specs.Terms.{PlainGlobal, IsGlobal, IsFunction, Text}
@@ -87,7 +87,7 @@ ids_below : (bytes : List ℕ) (tokens : List Token) (names : List (List ℕ)) (
     IdsBelow program (length names)
 ids_below bytes tokens names limit program lexed spelled =
     names_below limit program tokens names spelled
-    (All-weaker (IsSpelt bytes names) (IsNumbered names) (λ t s i e. slice_get_within names i (bytes_of bytes t) (s i e)) tokens (named lexed.lexes.cuts).spelt)
+    (All-weaker (IsSpelt bytes names) (IsNumbered names) (λ t s i e. slice_get_within names i (token_bytes bytes t) (s i e)) tokens (named lexed.lexes.cuts).spelt)
 
 all_named : (bytes : List ℕ) (tokens : List Token) (names : List (List ℕ)) (limit : ℕ) (program : Text) → IsLexed bytes tokens names → IsSpelled limit program tokens →
     AllByRecursion IsVariableName (kernel_of program names).shape.names

@@ -2,11 +2,11 @@
 use Rattle.std.specs.Prelude.{◌≡◌, ℕ, Bool, true, not, ◌&&◌, ◌||◌, ◌==◌, nat_le, List, [], ◌++◌, map, get_or, codes, decimal}
 use Rattle.std.specs.List.{AllByRecursion}
 use Rattle.forec_kernel.specs.Shapes.{PlainShape}
-use Rattle.forec_tree.specs.Lexis.{goes_on, IsName}
+use Rattle.forec_tree.specs.Lexis.{continues_name, IsName}
 
 -- a letter, `_`, a digit, `[` or `]`
 abbrev pub is_plain_byte : ℕ → Bool
-is_plain_byte b = goes_on b || (b == 91 || b == 93)
+is_plain_byte b = continues_name b || (b == 91 || b == 93)
 
 abbrev pub IsPlainName : List ℕ → Type 0
 IsPlainName name = AllByRecursion (λ b. is_plain_byte b ≡ true) name

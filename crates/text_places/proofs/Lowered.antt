@@ -13,13 +13,13 @@ use Rattle.forec_tree.specs.declared.tree.Number.{Number}
 use Rattle.forec_tree.specs.declared.tree.OpAt.{OpAt}
 use Rattle.forec_tree.specs.Scopes.{name_of, find_item}
 use Rattle.forec_tree.specs.Pauses.{within, find_function}
-use Rattle.forec_tree.specs.Terms.{Term, Num, Read, Element, Un, Bin, And, Or, Choose, Call, Terms, no_terms, more_terms, count_terms, Declared, Written, Statement, Declare, Nothing, Group, Assign, Invoke, If, While, For, Pause, Par, Abort, Return, Statements, no_statements, more_statements, Perhaps, absent, present, Branches, no_branches, by_call, by_group, PlainFunction, PlainItem, IsGlobal, IsFunction, Text}
+use Rattle.forec_tree.specs.Terms.{Term, Num, Read, Element, Un, Bin, And, Or, Choose, Call, Terms, no_terms, more_terms, count_terms, Declared, PlainTarget, Statement, Declare, Nothing, Group, Assign, Invoke, If, While, For, Pause, Par, Abort, Return, Statements, no_statements, more_statements, Perhaps, absent, present, Branches, no_branches, by_call, by_group, PlainFunction, PlainItem, IsGlobal, IsFunction, Text}
 use Rattle.forec_tree.specs.Turns.{inferred}
 use Rattle.text_kernel.specs.declared.names.Slot.{Slot}
 use Rattle.text_kernel.specs.declared.names.Stands.{Stands}
 use Rattle.text_kernel.specs.declared.names.Stands.TheVariants as st
-use Rattle.text_kernel.specs.Bindings.{number_of, slots_of, with_locals, params_at}
-use Rattle.text_kernel.specs.Lowering.{read_as, element_as, stands, lower_term, lower_terms, sequence, ends_with, NextNumbers, Made, Lowered, Listed, Started, as_one, lowered, from_slot, place_if, operated, assign_to, assign_at, bound_of, or_inferred, after_start, then_step, par_of, par_after, array_values, lower_local, lower_locals, scope_after, scope_after_perhaps, set_params, optional_test, lower_target, Inlined, lower_statement, lower_list, lower_perhaps, lower_branches, inlined_body, inlined_step, nothing_inlined, inlined}
+use Rattle.text_kernel.specs.Bindings.{number_of, slots_of, with_local_slots, params_at}
+use Rattle.text_kernel.specs.Lowering.{read_as, element_as, stands, lower_term, lower_terms, sequence, ends_with, NextNumbers, Made, Lowered, Listed, Started, as_one, lowered, from_slot, place_if, operated_expr, assign_to, assign_at, bound_of, or_inferred, after_start, then_step, par_of, par_after, array_values, lower_local, lower_locals, scope_after, scope_after_perhaps, set_params, optional_test, lower_target, Inlined, lower_statement, lower_list, lower_perhaps, lower_branches, inlined_body, inlined_step, nothing_inlined, inlined}
 use Rattle.log_ranges.specs.Places.{IsPlace, DividesAt, ExprPlaces, ExprsPlaces, BranchesPlaces, StmtPlaces, StmtsPlaces}
 use Rattle.value_ranges.proofs.Lists.{all_append}
 use Rattle.text_places.proofs.Trees.{TermPlaces, TermsPlaces, OptionPlaces, OpPlace, DeclaredPlaces, StatementPlaces, StatementsPlaces, PerhapsPlaces, LaunchesPlaces, ItemPlaces, TextPlaces}
@@ -77,7 +77,7 @@ divides_at op place p = pick (can_divide op)
     pick true e = p
     pick false e = cc
 
-operated_places : (op : Option OpAt) (old value : Expr) → OpPlace op → ExprPlaces old → ExprPlaces value → ExprPlaces (operated op old value)
+operated_places : (op : Option OpAt) (old value : Expr) → OpPlace op → ExprPlaces old → ExprPlaces value → ExprPlaces (operated_expr op old value)
 operated_places None old value p h g = g
 operated_places (Some o) old value p h g = (h, g, divides_at o.op o.place p)
 
@@ -177,7 +177,7 @@ module _ (text : Text) (words : TextPlaces text) where
   locals_places : (s : List Slot) (slot : ℕ) (ls : List Declared) → AllByRecursion DeclaredPlaces ls → StmtsPlaces (lower_locals text s slot ls)
   locals_places s slot [] h = tt
   locals_places s slot (l ∷ rest) h =
-      (local_places s slot l.name l.length l.values h.0.values h.0.place, locals_places (with_locals s slot (l ∷ [])) (slot + slots_of l.length) rest h.1)
+      (local_places s slot l.name l.length l.values h.0.values h.0.place, locals_places (with_local_slots s slot (l ∷ [])) (slot + slots_of l.length) rest h.1)
 
   params_places : (s : List Slot) (slot : ℕ) (es : Terms) → TermsPlaces es → StmtsPlaces (set_params text s slot es)
   params_places s slot no_terms h = tt
@@ -187,7 +187,7 @@ module _ (text : Text) (words : TextPlaces text) where
   test_places s None h = tt
   test_places s (Some e) h = term_places s e h
 
-  target_places : (s : List Slot) (t : Written) (op : Option OpAt) (value : Expr) → OptionPlaces t.index → IsPlace t.name.place → ExprPlaces value → OpPlace op →
+  target_places : (s : List Slot) (t : PlainTarget) (op : Option OpAt) (value : Expr) → OptionPlaces t.index → IsPlace t.name.place → ExprPlaces value → OpPlace op →
       StmtPlaces (lower_target text s t op value)
   target_places s t op value h q g p = pick t.index h
     where

@@ -5,11 +5,11 @@ use Rattle.forec_base.specs.declared.Place.{Place}
 use Rattle.forec_tree.specs.declared.operators.Operator.{Operator}
 use Rattle.forec_tree.specs.declared.operators.Operator.TheVariants as oper
 use Rattle.forec_tree.specs.declared.token.Token.{Token}
-use Rattle.forec_tree.specs.Terms.{Term, Declared, Written, Statement, Perhaps, Branches, no_branches, PlainGlobal, PlainItem, IsGlobal, Text}
-use Rattle.forec_tree.specs.Spelling.{Spelt, at, joined, listed, Spells, number, read, element, unary, binary, choose, bracketed, Whole, whole, Brackets, brackets, Indexes, indexes, Passes, passes_none, passes, Arguments, one, more}
+use Rattle.forec_tree.specs.Terms.{Term, Declared, PlainTarget, Statement, Perhaps, Branches, no_branches, PlainGlobal, PlainItem, IsGlobal, Text}
+use Rattle.forec_tree.specs.Spelling.{Spelt, at, operator_term, listed, Spells, number, read, element, unary, binary, choose, bracketed, Whole, whole, Brackets, brackets, SpellsIndex, indexes, SpellsArguments, passes_none, passes, SpellsExpressions, one, more}
 use Rattle.forec_tree.specs.Spelling as spell
 use Rattle.forec_tree.specs.Parts.{in_order, Launch, launched_before, launched, Head}
-use Rattle.forec_tree.specs.SpelledStatements.{Separated, last_part, next_part, Targets, scalar, indexed, Simple, sets, updates, steps_after, steps_ahead, invokes, Declares, bare, valued, array, valued_array, ForStarts, no_start, simple_start, declared_start, Tests, no_test, some_test, ForSteps, no_step, some_step, HeadParts, head_parts, Heads, heads, Says, acts, group, declares, if_alone, if_else, loops, counts, pauses, forks, aborts, gives_back, Block, block, Lists, no_more, and_more, Forks, forked, Starting, bare_call, call, blocked, Launches, last_branch, next_branch}
+use Rattle.forec_tree.specs.SpelledStatements.{Separated, last_part, next_part, Targets, scalar, indexed, Simple, sets, updates, steps_after, steps_ahead, invokes, Declares, bare, valued, array, valued_array, ForStarts, no_start, simple_start, declared_start, Tests, no_test, some_test, ForSteps, no_step, some_step, HeadParts, head_parts, Heads, heads, SpellsStatement, acts, group, declares, if_alone, if_else, loops, counts, pauses, forks, aborts, gives_back, Block, block, SpellsStatements, no_more, and_more, SpellsBranches, forked, Starting, bare_call, call, blocked, SpellsLaunches, last_branch, next_branch}
 use Rattle.forec_tree.specs.SpelledStatements as says
 use Rattle.forec_tree.specs.SpelledPrograms.{Introduces, constants, inputs, outputs, globals, shared_globals, function, Programs, no_items, more_items, IsSpelled}
 use Rattle.value_ranges.proofs.Lists.{all_append}
@@ -19,7 +19,7 @@ use Rattle.log_ranges.specs.Places.{IsPlace}
 
 -- ---- expressions
 
-joined_places : (op : Operator) (place : Place) (left right : Term) → TermPlaces left → TermPlaces right → IsPlace place → TermPlaces (joined op place left right)
+joined_places : (op : Operator) (place : Place) (left right : Term) → TermPlaces left → TermPlaces right → IsPlace place → TermPlaces (operator_term op place left right)
 joined_places oper.Or place left right h g p = (h, g)
 joined_places oper.And place left right h g p = (h, g)
 joined_places (oper.Computes op) place left right h g p = (h, g, p)
@@ -47,14 +47,14 @@ mutual
   brackets_places : {e : Term} {v : ℕ} {ls : List Spelt} → Brackets e v ls → SpeltPlaces ls → TermPlaces e
   brackets_places (brackets {v = v} right {ls = ls} m e n) h = whole_places e (front ls (at right v ∷ []) (behind h))
 
-  indexes_places : {e : Term} {v : ℕ} {ls : List Spelt} → Indexes e v ls → SpeltPlaces ls → TermPlaces e
+  indexes_places : {e : Term} {v : ℕ} {ls : List Spelt} → SpellsIndex e v ls → SpeltPlaces ls → TermPlaces e
   indexes_places (indexes {v = v} right {ls = ls} m e n) h = whole_places e (front ls (at right v ∷ []) (behind h))
 
-  passes_places : {args : List Term} {v : ℕ} {ls : List Spelt} → Passes args v ls → SpeltPlaces ls → TermsPlaces (listed args)
+  passes_places : {args : List Term} {v : ℕ} {ls : List Spelt} → SpellsArguments args v ls → SpeltPlaces ls → TermsPlaces (listed args)
   passes_places (passes_none m n) h = tt
   passes_places (passes {v = v} right {ls = ls} m a n) h = arguments_places a (front ls (at right v ∷ []) (behind h))
 
-  arguments_places : {args : List Term} {v : ℕ} {ls : List Spelt} → Arguments args v ls → SpeltPlaces ls → TermsPlaces (listed args)
+  arguments_places : {args : List Term} {v : ℕ} {ls : List Spelt} → SpellsExpressions args v ls → SpeltPlaces ls → TermsPlaces (listed args)
   arguments_places (one e) h = (whole_places e h, tt)
   arguments_places (more {v = v} comma {ls = ls} {rs = rs} e m a) h =
       (whole_places e (front ls (at comma v ∷ rs) h), arguments_places a (behind (back ls (at comma v ∷ rs) h)))
@@ -69,7 +69,7 @@ module _ {A : Type 0} (Part : A → ℕ → List Spelt → Type 0) (P : A → Ty
 
 -- ---- simple statements and declarations
 
-targets_places : {t : Written} {v : ℕ} {ls : List Spelt} → Targets t v ls → SpeltPlaces ls → OptionPlaces t.index × IsPlace t.name.place
+targets_places : {t : PlainTarget} {v : ℕ} {ls : List Spelt} → Targets t v ls → SpeltPlaces ls → OptionPlaces t.index × IsPlace t.name.place
 targets_places (scalar id n) h = (tt, h.each.0)
 targets_places (indexed id n i) h = (indexes_places i (behind h), h.each.0)
 
@@ -120,7 +120,7 @@ head_places (heads {v = v} right {ls = ls} m p n) h = parts_places p (front ls (
 -- ---- statements
 
 mutual
-  says_places : {x : Statement} {o : Bool} {v u : ℕ} {ls : List Spelt} → Says x o v u ls → SpeltPlaces ls → StatementPlaces x
+  says_places : {x : Statement} {o : Bool} {v u : ℕ} {ls : List Spelt} → SpellsStatement x o v u ls → SpeltPlaces ls → StatementPlaces x
   says_places (says.nothing m) h = tt
   says_places (acts {u = u} semicolon {ls = ls} s m) h = simple_places s (front ls (at semicolon u ∷ []) h)
   says_places (group b) h = block_places b h
@@ -153,11 +153,11 @@ mutual
   block_places : {place : Place} {body : List Statement} {v u : ℕ} {ls : List Spelt} → Block place body v u ls → SpeltPlaces ls → StatementsPlaces (in_order body)
   block_places (block {u = u} right {ls = ls} m l n) h = lists_places l (front ls (at right u ∷ []) (behind h))
 
-  lists_places : {body : List Statement} {v : ℕ} {ls : List Spelt} → Lists body v ls → SpeltPlaces ls → StatementsPlaces (in_order body)
+  lists_places : {body : List Statement} {v : ℕ} {ls : List Spelt} → SpellsStatements body v ls → SpeltPlaces ls → StatementsPlaces (in_order body)
   lists_places no_more h = tt
   lists_places (and_more {ls = ls} {rs = rs} s rest) h = (says_places s (front ls rs h), lists_places rest (back ls rs h))
 
-  forks_places : {bs : List Launch} {v : ℕ} {ls : List Spelt} → Forks bs v ls → SpeltPlaces ls → LaunchesPlaces (launched bs)
+  forks_places : {bs : List Launch} {v : ℕ} {ls : List Spelt} → SpellsBranches bs v ls → SpeltPlaces ls → LaunchesPlaces (launched bs)
   forks_places (forked {v = v} right {ls = ls} m l n) h = launches_places l (front ls (at right v ∷ []) (behind h))
 
   starting_places : {x : Launch} {v : ℕ} {ls : List Spelt} → Starting x v ls → SpeltPlaces ls → (rest : Branches) → LaunchesPlaces rest → LaunchesPlaces (launched_before x rest)
@@ -165,7 +165,7 @@ mutual
   starting_places (call id n p) h rest g = (passes_places p (behind h), g)
   starting_places (blocked b) h rest g = (block_places b h, g)
 
-  launches_places : {bs : List Launch} {v : ℕ} {ls : List Spelt} → Launches bs v ls → SpeltPlaces ls → LaunchesPlaces (launched bs)
+  launches_places : {bs : List Launch} {v : ℕ} {ls : List Spelt} → SpellsLaunches bs v ls → SpeltPlaces ls → LaunchesPlaces (launched bs)
   launches_places (last_branch s) h = starting_places s h no_branches tt
   launches_places (next_branch {v = v} {xs = xs} comma {ls = ls} {rs = rs} s m rest) h =
       starting_places s (front ls (at comma v ∷ rs) h) (launched xs) (launches_places rest (behind (back ls (at comma v ∷ rs) h)))

@@ -4,7 +4,7 @@ use Rattle.std.specs.List.{AllByRecursion}
 use Rattle.forec_tree.specs.Terms.{PlainFunction, IsGlobal, IsFunction, Text}
 use Rattle.text_kernel.specs.Bindings.{params_at}
 use Rattle.text_kernel.specs.Lowering.{Made, sequence}
-use Rattle.text_kernel.specs.Kernels.{function_body, int_functions, main_id, root, kernel_of}
+use Rattle.text_kernel.specs.Kernels.{lowered_function_body, int_functions, main_id, root, kernel_of}
 use Rattle.log_ranges.specs.Places.{StmtPlaces, KernelPlaces}
 use Rattle.text_places.specs.Laws.{SpelledProgramsHavePlaces}
 use Rattle.text_places.proofs.Tokens.{lexed_places}
@@ -29,11 +29,11 @@ module _ (text : Text) (names : List (List ℕ)) where
 
   module _ (words : TextPlaces text) where
     functions_places : (fs : List PlainFunction) → AllByRecursion (λ (f : PlainFunction). StatementsPlaces f.body) fs →
-        AllByRecursion StmtPlaces (map (λ f. sequence (function_body text names f).list) fs)
+        AllByRecursion StmtPlaces (map (λ f. sequence (lowered_function_body text names f).list) fs)
     functions_places [] h = tt
     functions_places (f ∷ fs) h =
         let l = body_places text words 0 (params_at 0 f.params) (record { slot = length f.params; thread = 1; par = 0 }) f.body h.0 in
-        (sequence_places (function_body text names f).list l.list, functions_places fs h.1)
+        (sequence_places (lowered_function_body text names f).list l.list, functions_places fs h.1)
 
     has_places : KernelPlaces (kernel_of text names)
     unfolding kernel_of

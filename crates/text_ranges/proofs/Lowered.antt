@@ -9,14 +9,14 @@ use Rattle.forec_tree.specs.declared.tree.Number.{Number}
 use Rattle.forec_tree.specs.declared.tree.OpAt.{OpAt}
 use Rattle.forec_tree.specs.Scopes.{name_of, is_constant, stated_length, find_item}
 use Rattle.forec_tree.specs.Pauses.{within, find_function}
-use Rattle.forec_tree.specs.Terms.{Term, Num, Read, Element, Un, Bin, And, Or, Choose, Call, Terms, no_terms, more_terms, count_terms, Declared, Written, Statement, Declare, Nothing, Group, Assign, Invoke, If, While, For, Pause, Par, Abort, Return, Statements, no_statements, more_statements, Perhaps, absent, present, Branches, no_branches, by_call, by_group, PlainGlobal, PlainFunction, PlainItem, IsGlobal, IsFunction, Text}
+use Rattle.forec_tree.specs.Terms.{Term, Num, Read, Element, Un, Bin, And, Or, Choose, Call, Terms, no_terms, more_terms, count_terms, Declared, PlainTarget, Statement, Declare, Nothing, Group, Assign, Invoke, If, While, For, Pause, Par, Abort, Return, Statements, no_statements, more_statements, Perhaps, absent, present, Branches, no_branches, by_call, by_group, PlainGlobal, PlainFunction, PlainItem, IsGlobal, IsFunction, Text}
 use Rattle.forec_tree.specs.Turns.{inferred}
 use Rattle.forec_tree.specs.Variables.{elements}
 use Rattle.text_kernel.specs.declared.names.Slot.{Slot}
 use Rattle.text_kernel.specs.declared.names.Stands.{Stands}
 use Rattle.text_kernel.specs.declared.names.Stands.TheVariants as st
-use Rattle.text_kernel.specs.Bindings.{number_of, find_slot, slots_of, with_locals, params_at, slot_stands, constant_stands, variable_stands, item_stands, first_value, is_table, number_among, variable_number}
-use Rattle.text_kernel.specs.Lowering.{read_as, element_as, stands, lower_term, lower_terms, sequence, ends_with, NextNumbers, Made, Lowered, Listed, Started, as_one, lowered, from_slot, operated, assign_to, assign_at, bound_of, or_inferred, after_start, then_step, par_of, par_after, array_values, lower_local, lower_locals, scope_after, scope_after_perhaps, set_params, optional_test, lower_target, Inlined, lower_statement, lower_list, lower_perhaps, lower_branches, inlined_body, inlined_step, nothing_inlined, inlined}
+use Rattle.text_kernel.specs.Bindings.{number_of, find_slot, slots_of, with_local_slots, params_at, slot_stands, constant_stands, variable_stands, item_stands, first_value, is_table, number_among, variable_number}
+use Rattle.text_kernel.specs.Lowering.{read_as, element_as, stands, lower_term, lower_terms, sequence, ends_with, NextNumbers, Made, Lowered, Listed, Started, as_one, lowered, from_slot, operated_expr, assign_to, assign_at, bound_of, or_inferred, after_start, then_step, par_of, par_after, array_values, lower_local, lower_locals, scope_after, scope_after_perhaps, set_params, optional_test, lower_target, Inlined, lower_statement, lower_list, lower_perhaps, lower_branches, inlined_body, inlined_step, nothing_inlined, inlined}
 use Rattle.value_ranges.specs.Words.{ExprWords, ExprsWords, BranchesWords, StmtWords, StmtsWords}
 use Rattle.value_ranges.proofs.Numbers.{zero_fits, one_fits}
 use Rattle.value_ranges.proofs.Lists.{all_append}
@@ -103,7 +103,7 @@ element_words (st.AsNumber n) i place h = h
 element_words (st.AsTable t) i place h = h
 element_words st.AsNothing i place h = h
 
-operated_words : (op : Option OpAt) (old value : Expr) → ExprWords old → ExprWords value → ExprWords (operated op old value)
+operated_words : (op : Option OpAt) (old value : Expr) → ExprWords old → ExprWords value → ExprWords (operated_expr op old value)
 operated_words None old value h g = g
 operated_words (Some o) old value h g = (h, g)
 
@@ -212,7 +212,7 @@ module _ (text : Text) (words : TextWords text) where
   locals_words : (s : List Slot) (slot : ℕ) (ls : List Declared) → AllByRecursion DeclaredWords ls → StmtsWords (lower_locals text s slot ls)
   locals_words s slot [] h = tt
   locals_words s slot (l ∷ rest) h =
-      (local_words s slot l.name l.length l.values h.0.values h.0.few, locals_words (with_locals s slot (l ∷ [])) (slot + slots_of l.length) rest h.1)
+      (local_words s slot l.name l.length l.values h.0.values h.0.few, locals_words (with_local_slots s slot (l ∷ [])) (slot + slots_of l.length) rest h.1)
 
   params_words : (s : List Slot) (slot : ℕ) (es : Terms) → TermsWords es → StmtsWords (set_params text s slot es)
   params_words s slot no_terms h = tt
@@ -222,7 +222,7 @@ module _ (text : Text) (words : TextWords text) where
   test_words s None h = one_fits
   test_words s (Some e) h = term_words s e h
 
-  target_words : (s : List Slot) (t : Written) (op : Option OpAt) (value : Expr) → OptionWords t.index → ExprWords value → StmtWords (lower_target text s t op value)
+  target_words : (s : List Slot) (t : PlainTarget) (op : Option OpAt) (value : Expr) → OptionWords t.index → ExprWords value → StmtWords (lower_target text s t op value)
   target_words s t op value h g = pick t.index h
     where
       pick : (i : Option Term) → OptionWords i →

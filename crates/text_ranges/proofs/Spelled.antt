@@ -9,11 +9,11 @@ use Rattle.forec_tree.specs.declared.token.Token.{Token}
 use Rattle.forec_tree.specs.declared.tree.Combine.{Combine}
 use Rattle.forec_tree.specs.declared.tree.GlobalKind.{GlobalKind}
 use Rattle.forec_tree.specs.declared.tree.Number.{Number}
-use Rattle.forec_tree.specs.Terms.{Term, count_terms, Declared, Written, Statement, Perhaps, Branches, no_branches, PlainGlobal, PlainItem, IsGlobal, Text}
-use Rattle.forec_tree.specs.Spelling.{Spelt, at, joined, listed, Spells, number, read, element, unary, binary, choose, bracketed, Whole, whole, Brackets, brackets, Indexes, indexes, Passes, passes_none, passes, Arguments, one, more}
+use Rattle.forec_tree.specs.Terms.{Term, count_terms, Declared, PlainTarget, Statement, Perhaps, Branches, no_branches, PlainGlobal, PlainItem, IsGlobal, Text}
+use Rattle.forec_tree.specs.Spelling.{Spelt, at, operator_term, listed, Spells, number, read, element, unary, binary, choose, bracketed, Whole, whole, Brackets, brackets, SpellsIndex, indexes, SpellsArguments, passes_none, passes, SpellsExpressions, one, more}
 use Rattle.forec_tree.specs.Spelling as spell
 use Rattle.forec_tree.specs.Parts.{in_order, Launch, launched_before, launched, Head}
-use Rattle.forec_tree.specs.SpelledStatements.{Separated, last_part, next_part, Targets, scalar, indexed, Simple, sets, updates, steps_after, steps_ahead, invokes, Declares, bare, valued, array, valued_array, ForStarts, no_start, simple_start, declared_start, Tests, no_test, some_test, ForSteps, no_step, some_step, HeadParts, head_parts, Heads, heads, Says, acts, group, declares, if_alone, if_else, loops, counts, pauses, forks, aborts, gives_back, Block, block, Lists, no_more, and_more, Forks, forked, Starting, bare_call, call, blocked, Launches, last_branch, next_branch}
+use Rattle.forec_tree.specs.SpelledStatements.{Separated, last_part, next_part, Targets, scalar, indexed, Simple, sets, updates, steps_after, steps_ahead, invokes, Declares, bare, valued, array, valued_array, ForStarts, no_start, simple_start, declared_start, Tests, no_test, some_test, ForSteps, no_step, some_step, HeadParts, head_parts, Heads, heads, SpellsStatement, acts, group, declares, if_alone, if_else, loops, counts, pauses, forks, aborts, gives_back, Block, block, SpellsStatements, no_more, and_more, SpellsBranches, forked, Starting, bare_call, call, blocked, SpellsLaunches, last_branch, next_branch}
 use Rattle.forec_tree.specs.SpelledStatements as says
 use Rattle.forec_tree.specs.SpelledPrograms.{Signed, positive, negative, Named, named, Scalar, unset, set, Table, constant, table, SharedVariable, Introduces, constants, inputs, outputs, globals, shared_globals, function, Programs, no_items, more_items, IsSpelled}
 use Rattle.forec_tree.specs.SpelledPrograms as spelled
@@ -24,7 +24,7 @@ use Rattle.text_ranges.proofs.Trees.{TermWords, TermsWords, OptionWords, Declare
 
 -- ---- expressions
 
-joined_words : (op : Operator) (place : Place) (left right : Term) → TermWords left → TermWords right → TermWords (joined op place left right)
+joined_words : (op : Operator) (place : Place) (left right : Term) → TermWords left → TermWords right → TermWords (operator_term op place left right)
 joined_words oper.Or place left right h g = (h, g)
 joined_words oper.And place left right h g = (h, g)
 joined_words (oper.Computes op) place left right h g = (h, g)
@@ -52,20 +52,20 @@ mutual
   brackets_words : {e : Term} {v : ℕ} {ls : List Spelt} → Brackets e v ls → SpeltFits ls → TermWords e
   brackets_words (brackets {v = v} right {ls = ls} m e n) h = whole_words e (front ls (at right v ∷ []) (behind h))
 
-  indexes_words : {e : Term} {v : ℕ} {ls : List Spelt} → Indexes e v ls → SpeltFits ls → TermWords e
+  indexes_words : {e : Term} {v : ℕ} {ls : List Spelt} → SpellsIndex e v ls → SpeltFits ls → TermWords e
   indexes_words (indexes {v = v} right {ls = ls} m e n) h = whole_words e (front ls (at right v ∷ []) (behind h))
 
-  passes_words : {args : List Term} {v : ℕ} {ls : List Spelt} → Passes args v ls → SpeltFits ls → TermsWords (listed args)
+  passes_words : {args : List Term} {v : ℕ} {ls : List Spelt} → SpellsArguments args v ls → SpeltFits ls → TermsWords (listed args)
   passes_words (passes_none m n) h = tt
   passes_words (passes {v = v} right {ls = ls} m a n) h = arguments_words a (front ls (at right v ∷ []) (behind h))
 
-  arguments_words : {args : List Term} {v : ℕ} {ls : List Spelt} → Arguments args v ls → SpeltFits ls → TermsWords (listed args)
+  arguments_words : {args : List Term} {v : ℕ} {ls : List Spelt} → SpellsExpressions args v ls → SpeltFits ls → TermsWords (listed args)
   arguments_words (one e) h = (whole_words e h, tt)
   arguments_words (more {v = v} comma {ls = ls} {rs = rs} e m a) h =
       (whole_words e (front ls (at comma v ∷ rs) h), arguments_words a (behind (back ls (at comma v ∷ rs) h)))
 
 -- a comma stands between each two
-arguments_few : {args : List Term} {v : ℕ} {ls : List Spelt} → Arguments args v ls → count_terms (listed args) ≤ length ls + 1
+arguments_few : {args : List Term} {v : ℕ} {ls : List Spelt} → SpellsExpressions args v ls → count_terms (listed args) ≤ length ls + 1
 arguments_few (one e) = omega arith
 arguments_few (more {v = v} comma {ls = ls} {rs = rs} e m a) = let n = arguments_few a in omega (arith, length-append ls (at comma v ∷ rs), n)
 
@@ -79,7 +79,7 @@ module _ {A : Type 0} (Part : A → ℕ → List Spelt → Type 0) (P : A → Ty
 
 -- ---- simple statements and declarations
 
-targets_words : {t : Written} {v : ℕ} {ls : List Spelt} → Targets t v ls → SpeltFits ls → OptionWords t.index
+targets_words : {t : PlainTarget} {v : ℕ} {ls : List Spelt} → Targets t v ls → SpeltFits ls → OptionWords t.index
 targets_words (scalar id n) h = tt
 targets_words (indexed id n i) h = indexes_words i (behind h)
 
@@ -132,7 +132,7 @@ head_words (heads {v = v} right {ls = ls} m p n) h = parts_words p (front ls (at
 -- ---- statements
 
 mutual
-  says_words : {x : Statement} {o : Bool} {v u : ℕ} {ls : List Spelt} → Says x o v u ls → SpeltFits ls → StatementWords x
+  says_words : {x : Statement} {o : Bool} {v u : ℕ} {ls : List Spelt} → SpellsStatement x o v u ls → SpeltFits ls → StatementWords x
   says_words (says.nothing m) h = tt
   says_words (acts {u = u} semicolon {ls = ls} s m) h = simple_words s (front ls (at semicolon u ∷ []) h)
   says_words (group b) h = block_words b h
@@ -165,11 +165,11 @@ mutual
   block_words : {place : Place} {body : List Statement} {v u : ℕ} {ls : List Spelt} → Block place body v u ls → SpeltFits ls → StatementsWords (in_order body)
   block_words (block {u = u} right {ls = ls} m l n) h = lists_words l (front ls (at right u ∷ []) (behind h))
 
-  lists_words : {body : List Statement} {v : ℕ} {ls : List Spelt} → Lists body v ls → SpeltFits ls → StatementsWords (in_order body)
+  lists_words : {body : List Statement} {v : ℕ} {ls : List Spelt} → SpellsStatements body v ls → SpeltFits ls → StatementsWords (in_order body)
   lists_words no_more h = tt
   lists_words (and_more {ls = ls} {rs = rs} s rest) h = (says_words s (front ls rs h), lists_words rest (back ls rs h))
 
-  forks_words : {bs : List Launch} {v : ℕ} {ls : List Spelt} → Forks bs v ls → SpeltFits ls → LaunchesWords (launched bs)
+  forks_words : {bs : List Launch} {v : ℕ} {ls : List Spelt} → SpellsBranches bs v ls → SpeltFits ls → LaunchesWords (launched bs)
   forks_words (forked {v = v} right {ls = ls} m l n) h = launches_words l (front ls (at right v ∷ []) (behind h))
 
   starting_words : {x : Launch} {v : ℕ} {ls : List Spelt} → Starting x v ls → SpeltFits ls → (rest : Branches) → LaunchesWords rest → LaunchesWords (launched_before x rest)
@@ -177,7 +177,7 @@ mutual
   starting_words (call id n p) h rest g = (passes_words p (behind h), g)
   starting_words (blocked b) h rest g = (block_words b h, g)
 
-  launches_words : {bs : List Launch} {v : ℕ} {ls : List Spelt} → Launches bs v ls → SpeltFits ls → LaunchesWords (launched bs)
+  launches_words : {bs : List Launch} {v : ℕ} {ls : List Spelt} → SpellsLaunches bs v ls → SpeltFits ls → LaunchesWords (launched bs)
   launches_words (last_branch s) h = starting_words s h no_branches tt
   launches_words (next_branch {v = v} {xs = xs} comma {ls = ls} {rs = rs} s m rest) h =
       starting_words s (front ls (at comma v ∷ rs) h) (launched xs) (launches_words rest (behind (back ls (at comma v ∷ rs) h)))

@@ -5,8 +5,8 @@ use Rattle.std.specs.List.{AllByRecursion}
 use Rattle.forec_tree.specs.declared.token.Token.{Token}
 use Rattle.forec_tree.specs.declared.token.TokenKind.{TokenKind}
 use Rattle.forec_tree.specs.declared.token.TokenKind.TheVariants as kind
-use Rattle.forec_tree.specs.Lexis.{Fits, Piece, blank, name, number, word, mark}
-use Rattle.forec_tree.specs.LexedText.{kind_of, token_at, Cuts, begins, skips, takes, IsLexed}
+use Rattle.forec_tree.specs.Lexis.{IsPiece, Piece, blank, name, number, word, mark}
+use Rattle.forec_tree.specs.LexedText.{token_kind_of, token_at, Cuts, begins, skips, takes, IsLexed}
 use Rattle.forec_tree.specs.Spelling.{Spelt, tokens}
 use Rattle.value_ranges.proofs.Numbers.{signed_fits}
 use Rattle.value_ranges.proofs.Lists.{all_append}
@@ -17,7 +17,7 @@ TokenFits t = (value : ℤ) → t.kind ≡ kind.Number value → FitsSigned w32 
 
 -- ---- the tokens of a text
 
-piece_fits : (names : List (List ℕ)) (p : Piece) (bytes after : List ℕ) (k : TokenKind) → Fits p bytes after → kind_of names p bytes ≡ Some k →
+piece_fits : (names : List (List ℕ)) (p : Piece) (bytes after : List ℕ) (k : TokenKind) → IsPiece p bytes after → token_kind_of names p bytes ≡ Some k →
     (value : ℤ) → k ≡ kind.Number value → FitsSigned w32 value
 piece_fits names blank bytes after k f e value i = cc
 piece_fits names name bytes after k f e value i = cc

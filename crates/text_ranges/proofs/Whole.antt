@@ -8,7 +8,7 @@ use Rattle.forec_tree.specs.Terms.{PlainGlobal, PlainFunction, IsGlobal, IsFunct
 use Rattle.forec_tree.specs.Variables.{PlainVariable, elements, elements_from, variables_of, variables}
 use Rattle.text_kernel.specs.Bindings.{params_at, number_of, first_value, nth_value}
 use Rattle.text_kernel.specs.Lowering.{Made, sequence}
-use Rattle.text_kernel.specs.Kernels.{padded, initial_value, variable_shape, table_of, tables_of, function_body, int_functions, main_id, root, kernel_of}
+use Rattle.text_kernel.specs.Kernels.{padded, initial_value, variable_shape, table_of, tables_of, lowered_function_body, int_functions, main_id, root, kernel_of}
 use Rattle.value_ranges.specs.Words.{AreWords, StmtWords, KernelWords}
 use Rattle.value_ranges.proofs.Numbers.{zero_fits}
 use Rattle.value_ranges.proofs.Lists.{all_append}
@@ -99,11 +99,11 @@ module _ (text : Text) (names : List (List ℕ)) where
 
   module _ (words : TextWords text) where
     functions_fit : (fs : List PlainFunction) → AllByRecursion (λ (f : PlainFunction). StatementsWords f.body) fs →
-        AllByRecursion StmtWords (map (λ f. sequence (function_body text names f).list) fs)
+        AllByRecursion StmtWords (map (λ f. sequence (lowered_function_body text names f).list) fs)
     functions_fit [] h = tt
     functions_fit (f ∷ fs) h =
         let l = body_words text words 0 (params_at 0 f.params) (record { slot = length f.params; thread = 1; par = 0 }) f.body h.0 in
-        (sequence_words (function_body text names f).list l.list, functions_fit fs h.1)
+        (sequence_words (lowered_function_body text names f).list l.list, functions_fit fs h.1)
 
     has_words : KernelWords (kernel_of text names)
     unfolding kernel_of

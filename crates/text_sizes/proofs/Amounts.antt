@@ -10,7 +10,7 @@ use Rattle.text_kernel.specs.Kernels as kernels
 use Rattle.text_kernel.specs.Limits.{amount}
 use Rattle.text_kernel.proofs.Functions.{nothing}
 use Rattle.text_sizes.specs.declared.extents.Extent.{Extent}
-use Rattle.text_sizes.specs.Extents.{extent_value, own_at, counts_of}
+use Rattle.text_sizes.specs.Extents.{extent_value, own_at, int_function_terms}
 use Rattle.text_sizes.proofs.TermCountLemmas.{sequence_as, all_is, length_is}
 use Rattle.text_sizes.proofs.Sized.{made_terms}
 use Rattle.text_sizes.proofs.Extending.{value_capped, has_terms, nothing_known}
@@ -19,19 +19,19 @@ bodies_made : (a : List Made) → bodies_terms (map (λ m. m.body) a) ≡ made_t
 bodies_made [] = refl
 bodies_made (m ∷ a) = ap (λ n. stmt_terms m.body + n) (bodies_made a)
 
-functions_terms : (text : Text) (names : List (List ℕ)) (fs : List PlainFunction) → bodies_terms (map (λ f. sequence (kernels.function_body text names f).list) fs) ≡ counts_of fs
+functions_terms : (text : Text) (names : List (List ℕ)) (fs : List PlainFunction) → bodies_terms (map (λ f. sequence (kernels.lowered_function_body text names f).list) fs) ≡ int_function_terms fs
 functions_terms text names [] = refl
 functions_terms text names (f ∷ rest) =
     let right = λ (id first t : ℕ) (n : NextNumbers). ap (λ (x : Extent). x.own) (sym (nothing_known id)) in
     let n : NextNumbers = record { slot = length f.params; thread = 1; par = 0 } in
     let s = params_at 0 f.params in
     let one =
-    sequence_as (kernels.function_body text names f).list _ _ (length_is text nothing (own_at []) right 0 s n f.body) (all_is text nothing (own_at []) right 0 s n f.body) in
+    sequence_as (kernels.lowered_function_body text names f).list _ _ (length_is text nothing (own_at []) right 0 s n f.body) (all_is text nothing (own_at []) right 0 s n f.body) in
     let rest_is = functions_terms text names rest in
     omega (arith, one, rest_is)
 
 pub terms_amount : (text : Text) (names : List (List ℕ)) (first own under functions main whole : ℕ) (fs : List PlainFunction) → first ≡ main_id text names → fs ≡ int_functions text names text → own ≡ (extent_value text first).own →
-    under ≡ (extent_value text first).under → functions ≡ min (counts_of fs) (2 ^ 64 - 1) → main ≡ min (own + under) (2 ^ 64 - 1) → whole ≡ min (main + functions) (2 ^ 64 - 1) →
+    under ≡ (extent_value text first).under → functions ≡ min (int_function_terms fs) (2 ^ 64 - 1) → main ≡ min (own + under) (2 ^ 64 - 1) → whole ≡ min (main + functions) (2 ^ 64 - 1) →
     whole ≡ min (amount Terms (kernel_of text names)) (2 ^ 64 - 1)
 unfolding amount kernel_of
 terms_amount text names first own under functions main whole fs f i o u g m w =
@@ -46,5 +46,5 @@ terms_amount text names first own under functions main whole fs f i o u g m w =
     let uu = u ∙ ap (λ n. (extent_value text n).under) f in
     let made = bodies_made (root text names).made in
     let fn = functions_terms text names (int_functions text names text) in
-    let same = ap counts_of i in
+    let same = ap int_function_terms i in
     omega (arith, ko, ku, a, b, oo, uu, g, m, w, made, fn, same)

@@ -12,14 +12,14 @@ use Rattle.text_sizes.specs.declared.extents.Extent.{Extent}
 use Rattle.text_kernel.specs.Bindings.{params_at}
 use Rattle.text_sizes.specs.TermCounts.{sequence_count, statement_count, own_all, under_all}
 use Rattle.text_kernel.specs.Lowering.{NextNumbers, Inlined, inlined_step, nothing_inlined, inlined_body}
-use Rattle.text_sizes.specs.Extents.{nothing, extent_at, extent_by, extent_step, exact, capped, extent_value}
+use Rattle.text_sizes.specs.Extents.{no_extent, extent_at, extent_by, extent_step, exact, capped_size, extent_value}
 use Rattle.text_sizes.proofs.TermCountLemmas.{sequence_as, all_is, length_is}
 use Rattle.text_sizes.proofs.Sized.{made_terms, list_under}
 use Rattle.text_sizes.proofs.Nearby.{sequence_near, all_near, list_near}
 
 -- ---- tables
 
-pub nothing_known : (h : ℕ) → extent_at [] h ≡ nothing
+pub nothing_known : (h : ℕ) → extent_at [] h ≡ no_extent
 nothing_known zero = refl
 nothing_known (suc h) = refl
 
@@ -28,7 +28,7 @@ nothing_known (suc h) = refl
 abbrev of_parts : ℕ → ℕ → Extent
 of_parts a b = record { own = a; under = b }
 
-extent_same : (a b : ℕ → Extent) (f : Option PlainFunction) → ((g : ℕ) → is_in g (function_callees f) ≡ true → a g ≡ b g) → extent_by capped a f ≡ extent_by capped b f
+extent_same : (a b : ℕ → Extent) (f : Option PlainFunction) → ((g : ℕ) → is_in g (function_callees f) ≡ true → a g ≡ b g) → extent_by capped_size a f ≡ extent_by capped_size b f
 extent_same a b None h = refl
 extent_same a b (Some f) h =
     let cap = 2 ^ 64 - 1 in
@@ -38,9 +38,9 @@ extent_same a b (Some f) h =
     ∙ ap (λ n. of_parts (min (sequence_count (statement_count f.body) (own_all (λ g. (b g).own) f.body)) cap) n) under
 
 pub extents_settle : (text : Text) (functions order : List ℕ) (calls : ℕ → List ℕ) → Read started_in text functions calls → IsOrder functions calls order → ((f : ℕ) → Leads (callees_of text) f f → ⊥) →
-    Settles nothing (extent_step capped text) (extent_value text) order
+    Settles no_extent (extent_step capped_size text) (extent_value text) order
 unfolding extent_value
-extents_settle text functions order calls r o free = started_settles nothing (extent_by capped) (λ a. refl) extent_same text functions order calls r o free
+extents_settle text functions order calls r o free = started_settles no_extent (extent_by capped_size) (λ a. refl) extent_same text functions order calls r o free
 
 -- ---- what is exact and what is capped
 
@@ -51,7 +51,7 @@ pub record IsCapped (kept whole : Extent) : Type 0 where
 again : (a b : ℕ) → a ≡ min b (2 ^ 64 - 1) → min a (2 ^ 64 - 1) ≡ min b (2 ^ 64 - 1)
 again a b h = omega arith
 
-by_capped : (a b : ℕ → Extent) (f : Option PlainFunction) → ((g : ℕ) → IsCapped (a g) (b g)) → IsCapped (extent_by capped a f) (extent_by exact b f)
+by_capped : (a b : ℕ → Extent) (f : Option PlainFunction) → ((g : ℕ) → IsCapped (a g) (b g)) → IsCapped (extent_by capped_size a f) (extent_by exact b f)
 by_capped a b None h = record { own = refl; under = refl }
 by_capped a b (Some f) h =
     let cap = 2 ^ 64 - 1 in
@@ -62,12 +62,12 @@ by_capped a b (Some f) h =
       under = list_near cap (λ g. (a g).own) (λ g. (b g).own) (λ g. (a g).under) (λ g. (b g).under) f.body (λ g i. own g) (λ g i. under g);
     }
 
-within_capped : (text : Text) (deep id : ℕ) → IsCapped (within nothing (extent_step capped text) deep id) (within nothing (extent_step exact text) deep id)
+within_capped : (text : Text) (deep id : ℕ) → IsCapped (within no_extent (extent_step capped_size text) deep id) (within no_extent (extent_step exact text) deep id)
 unfolding within
 within_capped text zero id = record { own = refl; under = refl }
-within_capped text (suc deep) id = by_capped (within nothing (extent_step capped text) deep) (within nothing (extent_step exact text) deep) (find_function id text) (within_capped text deep)
+within_capped text (suc deep) id = by_capped (within no_extent (extent_step capped_size text) deep) (within no_extent (extent_step exact text) deep) (find_function id text) (within_capped text deep)
 
-pub value_capped : (text : Text) (id : ℕ) → IsCapped (extent_value text id) (within nothing (extent_step exact text) (length text) id)
+pub value_capped : (text : Text) (id : ℕ) → IsCapped (extent_value text id) (within no_extent (extent_step exact text) (length text) id)
 unfolding extent_value
 value_capped text id = within_capped text (length text) id
 
@@ -90,17 +90,17 @@ body_under text called sizes right beneath None first t n = refl
 body_under text called sizes right beneath (Some f) first t n =
     list_under text called (λ g. (sizes g).own) (λ g. (sizes g).under) right beneath t (params_at first f.params) n f.body
 
-place_own : (text : Text) (deep id first t : ℕ) (n : NextNumbers) → stmt_terms (within nothing_inlined (inlined_step text) deep id first t n).stmt ≡ (within nothing (extent_step exact text) deep id).own
+place_own : (text : Text) (deep id first t : ℕ) (n : NextNumbers) → stmt_terms (within nothing_inlined (inlined_step text) deep id first t n).stmt ≡ (within no_extent (extent_step exact text) deep id).own
 unfolding within
 place_own text zero id first t n = refl
 place_own text (suc deep) id first t n =
-    body_own text (within nothing_inlined (inlined_step text) deep) (within nothing (extent_step exact text) deep) (place_own text deep) (find_function id text) first t n
+    body_own text (within nothing_inlined (inlined_step text) deep) (within no_extent (extent_step exact text) deep) (place_own text deep) (find_function id text) first t n
 
-place_under : (text : Text) (deep id first t : ℕ) (n : NextNumbers) → made_terms (within nothing_inlined (inlined_step text) deep id first t n).made ≡ (within nothing (extent_step exact text) deep id).under
+place_under : (text : Text) (deep id first t : ℕ) (n : NextNumbers) → made_terms (within nothing_inlined (inlined_step text) deep id first t n).made ≡ (within no_extent (extent_step exact text) deep id).under
 unfolding within
 place_under text zero id first t n = refl
 place_under text (suc deep) id first t n =
-    body_under text (within nothing_inlined (inlined_step text) deep) (within nothing (extent_step exact text) deep) (place_own text deep) (place_under text deep) (find_function id text) first t n
+    body_under text (within nothing_inlined (inlined_step text) deep) (within no_extent (extent_step exact text) deep) (place_own text deep) (place_under text deep) (find_function id text) first t n
 
-pub has_terms : (text : Text) (deep id : ℕ) → HasTerms text deep id (within nothing (extent_step exact text) deep id)
+pub has_terms : (text : Text) (deep id : ℕ) → HasTerms text deep id (within no_extent (extent_step exact text) deep id)
 has_terms text deep id = record { own = place_own text deep id; under = place_under text deep id }

@@ -196,7 +196,7 @@ module _ (measure : Made → ℕ) where
           let next : NextNumbers = record { slot = n.slot; thread = b.next.thread; par = b.next.par } in
           let m = lower_branches text called t s p next rest in
           let e = most_append b.made m.made in
-          let f = names t p n.thread (count_terms args) name inside (Rattle.std.proofs.Common.length (low.params_of (find_function name.id text))) refl in
+          let f = names t p n.thread (count_terms args) name inside (Rattle.std.proofs.Common.length (low.param_names (find_function name.id text))) refl in
           let g = beneath name.id 0 n.thread inside in
           let h = branches_least t s p next rest in
           omega (arith, e, f, g, h)
@@ -291,7 +291,7 @@ module _ (measure : Made → ℕ) where
           let next : NextNumbers = record { slot = n.slot; thread = b.next.thread; par = b.next.par } in
           let m = lower_branches text called t s p next rest in
           let e = most_append b.made m.made in
-          let f = names t p n.thread (count_terms args) name inside (Rattle.std.proofs.Common.length (low.params_of (find_function name.id text))) refl in
+          let f = names t p n.thread (count_terms args) name inside (Rattle.std.proofs.Common.length (low.param_names (find_function name.id text))) refl in
           let g = beneath name.id 0 n.thread inside in
           let h = branches_greatest t s p next rest in
           omega (arith, e, f, g, h)

@@ -1,7 +1,7 @@
 -- Counts of terms by tables that are the same up to a cap are the same up to it.
 use Rattle.std.proofs.Common.{ℕ, zero, suc, ◌+◌, ◌≡◌, min, refl, true, List, [], ◌++◌, arith}
 use Rattle.forec_tree.specs.Terms.{count_terms, Statement, Declare, Nothing, Group, Assign, Invoke, If, While, For, Pause, Par, Abort, Return, Statements, no_statements, more_statements, Perhaps, absent, present, Branches, no_branches, by_call, by_group}
-use Rattle.forec_tree.specs.Pauses.{started, all_started, perhaps_started, branches_started}
+use Rattle.forec_tree.specs.Pauses.{started_names, all_started, perhaps_started, branches_started}
 use Rattle.forec_tree.specs.Faults.{is_in}
 use Rattle.forec_tree.proofs.Agrees.{in_left, in_right, in_head, in_tail}
 use Rattle.text_sizes.specs.TermCounts.{sequence_count, sets_count, statement_count, optional_count, own, own_all, own_perhaps, own_start, own_step, under, under_all, under_perhaps, under_branches}
@@ -32,7 +32,7 @@ module _ (c : ℕ) where
     step_near (present s) x y h k = omega arith
 
     mutual
-      pub own_near : (s : Statement) → Near a b (started s) → min (own a s) c ≡ min (own b s) c
+      pub own_near : (s : Statement) → Near a b (started_names s) → min (own a s) c ≡ min (own b s) c
       own_near (Nothing at) h = refl
       own_near (Group at body) h = sequence_near c (statement_count body) (own_all a body) (own_all b body) (all_near body h)
       own_near (Declare at locals) h = refl
@@ -42,15 +42,15 @@ module _ (c : ℕ) where
           let d : min (sets_count args + a name.id) c ≡ min (sets_count args + b name.id) c = omega (arith, e) in
           sequence_near c (suc (count_terms args)) (sets_count args + a name.id) (sets_count args + b name.id) d
       own_near (If at test x y) h =
-          let e = own_near x (near_left a b (started x) (perhaps_started y) h) in
-          let d = perhaps_near y (near_right a b (started x) (perhaps_started y) h) in
+          let e = own_near x (near_left a b (started_names x) (perhaps_started y) h) in
+          let d = perhaps_near y (near_right a b (started_names x) (perhaps_started y) h) in
           omega (arith, e, d)
       own_near (While at test bound body) h = let e = own_near body h in omega (arith, e)
       own_near (For at start test step bound body) h =
-          let rest = near_right a b (perhaps_started start) (perhaps_started step ++ started body) h in
-          let e = perhaps_near start (near_left a b (perhaps_started start) (perhaps_started step ++ started body) h) in
-          let d = perhaps_near step (near_left a b (perhaps_started step) (started body) rest) in
-          let f = own_near body (near_right a b (perhaps_started step) (started body) rest) in
+          let rest = near_right a b (perhaps_started start) (perhaps_started step ++ started_names body) h in
+          let e = perhaps_near start (near_left a b (perhaps_started start) (perhaps_started step ++ started_names body) h) in
+          let d = perhaps_near step (near_left a b (perhaps_started step) (started_names body) rest) in
+          let f = own_near body (near_right a b (perhaps_started step) (started_names body) rest) in
           let g = step_near step (own a body) (own b body) d f in
           start_near start (1 + optional_count test + own_step a step (own a body)) (1 + optional_count test + own_step b step (own b body)) e (omega (arith, g))
       own_near (Pause at) h = refl
@@ -62,8 +62,8 @@ module _ (c : ℕ) where
       pub all_near : (s : Statements) → Near a b (all_started s) → min (own_all a s) c ≡ min (own_all b s) c
       all_near no_statements h = refl
       all_near (more_statements x rest) h =
-          let e = own_near x (near_left a b (started x) (all_started rest) h) in
-          let d = all_near rest (near_right a b (started x) (all_started rest) h) in
+          let e = own_near x (near_left a b (started_names x) (all_started rest) h) in
+          let d = all_near rest (near_right a b (started_names x) (all_started rest) h) in
           omega (arith, e, d)
 
       perhaps_near : (s : Perhaps) → Near a b (perhaps_started s) → min (own_perhaps a s) c ≡ min (own_perhaps b s) c
@@ -72,23 +72,23 @@ module _ (c : ℕ) where
 
     module _ (p q : ℕ → ℕ) where
       mutual
-        pub under_near : (s : Statement) → Near a b (started s) → Near p q (started s) → min (under a p s) c ≡ min (under b q s) c
+        pub under_near : (s : Statement) → Near a b (started_names s) → Near p q (started_names s) → min (under a p s) c ≡ min (under b q s) c
         under_near (Nothing at) h k = refl
         under_near (Group at body) h k = list_near body h k
         under_near (Declare at locals) h k = refl
         under_near (Assign at target op value) h k = refl
         under_near (Invoke at name args) h k = k name.id (in_head name.id [])
         under_near (If at test x y) h k =
-            let e = under_near x (near_left a b (started x) (perhaps_started y) h) (near_left p q (started x) (perhaps_started y) k) in
-            let d = maybe_near y (near_right a b (started x) (perhaps_started y) h) (near_right p q (started x) (perhaps_started y) k) in
+            let e = under_near x (near_left a b (started_names x) (perhaps_started y) h) (near_left p q (started_names x) (perhaps_started y) k) in
+            let d = maybe_near y (near_right a b (started_names x) (perhaps_started y) h) (near_right p q (started_names x) (perhaps_started y) k) in
             omega (arith, e, d)
         under_near (While at test bound body) h k = under_near body h k
         under_near (For at start test step bound body) h k =
-            let more = near_right a b (perhaps_started start) (perhaps_started step ++ started body) h in
-            let rest = near_right p q (perhaps_started start) (perhaps_started step ++ started body) k in
-            let e = maybe_near start (near_left a b (perhaps_started start) (perhaps_started step ++ started body) h) (near_left p q (perhaps_started start) (perhaps_started step ++ started body) k) in
-            let d = maybe_near step (near_left a b (perhaps_started step) (started body) more) (near_left p q (perhaps_started step) (started body) rest) in
-            let f = under_near body (near_right a b (perhaps_started step) (started body) more) (near_right p q (perhaps_started step) (started body) rest) in
+            let more = near_right a b (perhaps_started start) (perhaps_started step ++ started_names body) h in
+            let rest = near_right p q (perhaps_started start) (perhaps_started step ++ started_names body) k in
+            let e = maybe_near start (near_left a b (perhaps_started start) (perhaps_started step ++ started_names body) h) (near_left p q (perhaps_started start) (perhaps_started step ++ started_names body) k) in
+            let d = maybe_near step (near_left a b (perhaps_started step) (started_names body) more) (near_left p q (perhaps_started step) (started_names body) rest) in
+            let f = under_near body (near_right a b (perhaps_started step) (started_names body) more) (near_right p q (perhaps_started step) (started_names body) rest) in
             omega (arith, e, d, f)
         under_near (Pause at) h k = refl
         under_near (Par at bs) h k = branches_near bs h k
@@ -98,8 +98,8 @@ module _ (c : ℕ) where
         pub list_near : (s : Statements) → Near a b (all_started s) → Near p q (all_started s) → min (under_all a p s) c ≡ min (under_all b q s) c
         list_near no_statements h k = refl
         list_near (more_statements x rest) h k =
-            let e = under_near x (near_left a b (started x) (all_started rest) h) (near_left p q (started x) (all_started rest) k) in
-            let d = list_near rest (near_right a b (started x) (all_started rest) h) (near_right p q (started x) (all_started rest) k) in
+            let e = under_near x (near_left a b (started_names x) (all_started rest) h) (near_left p q (started_names x) (all_started rest) k) in
+            let d = list_near rest (near_right a b (started_names x) (all_started rest) h) (near_right p q (started_names x) (all_started rest) k) in
             omega (arith, e, d)
 
         maybe_near : (s : Perhaps) → Near a b (perhaps_started s) → Near p q (perhaps_started s) → min (under_perhaps a p s) c ≡ min (under_perhaps b q s) c

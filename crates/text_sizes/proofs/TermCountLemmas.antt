@@ -3,7 +3,7 @@ use Rattle.std.proofs.Common.{ℕ, suc, ◌+◌, ◌≡◌, ◌∙◌, ap, refl,
 use Rattle.forec_base.specs.declared.Place.{Place}
 use Rattle.forec_tree.specs.declared.tree.OpAt.{OpAt}
 use Rattle.forec_tree.specs.declared.tree.Number.{Number}
-use Rattle.forec_tree.specs.Terms.{Term, Num, Read, Element, Un, Bin, And, Or, Choose, Call, Terms, no_terms, more_terms, count_terms, Declared, Written, Statement, Declare, Nothing, Group, Assign, Invoke, If, While, For, Pause, Par, Abort, Return, Statements, no_statements, more_statements, Perhaps, absent, present, Branches, no_branches, by_call, by_group, Text}
+use Rattle.forec_tree.specs.Terms.{Term, Num, Read, Element, Un, Bin, And, Or, Choose, Call, Terms, no_terms, more_terms, count_terms, Declared, PlainTarget, Statement, Declare, Nothing, Group, Assign, Invoke, If, While, For, Pause, Par, Abort, Return, Statements, no_statements, more_statements, Perhaps, absent, present, Branches, no_branches, by_call, by_group, Text}
 use Rattle.forec_kernel.specs.Terms as kernel
 use Rattle.forec_kernel.specs.Terms.{Expr, Branch, Stmt, Stmts, no_stmts, more_stmts}
 use Rattle.forec_kernel.specs.Weight.{expr_weight, exprs_weight, branches_weight}
@@ -11,9 +11,9 @@ use Rattle.forec_kernel.specs.WellFormed.{stmt_terms, stmts_terms}
 use Rattle.text_kernel.specs.declared.names.Slot.{Slot}
 use Rattle.text_kernel.specs.declared.names.Stands.{Stands}
 use Rattle.text_kernel.specs.declared.names.Stands.TheVariants as st
-use Rattle.text_kernel.specs.Bindings.{with_locals, slots_of, number_of}
+use Rattle.text_kernel.specs.Bindings.{with_local_slots, slots_of, number_of}
 use Rattle.text_kernel.specs.Lowering as low
-use Rattle.text_kernel.specs.Lowering.{read_as, element_as, stands, lower_term, lower_terms, sequence, ends_with, operated, assign_to, assign_at, array_values, lower_local, lower_locals, set_params, optional_test, lower_target, lower_statement, lower_list, lower_perhaps, lower_branches, scope_after, scope_after_perhaps, after_start, then_step, par_of, par_after, NextNumbers, Inlined}
+use Rattle.text_kernel.specs.Lowering.{read_as, element_as, stands, lower_term, lower_terms, sequence, ends_with, operated_expr, assign_to, assign_at, array_values, lower_local, lower_locals, set_params, optional_test, lower_target, lower_statement, lower_list, lower_perhaps, lower_branches, scope_after, scope_after_perhaps, after_start, then_step, par_of, par_after, NextNumbers, Inlined}
 use Rattle.text_sizes.specs.TermCounts.{term_count, terms_count, sequence_count, values_count, first_count, local_count, locals_count, operated_count, assign_count, sets_count, optional_count, branches_count, statement_count, own, own_all, own_perhaps, own_start, own_step}
 
 read_weight : (x : Stands) → expr_weight (read_as x) ≡ 1
@@ -71,7 +71,7 @@ ends_terms : (list : Stmts) (a : Stmt) → stmts_terms (ends_with list a) ≡ st
 ends_terms no_stmts a = omega arith
 ends_terms (more_stmts b rest) a = omega (arith, ends_terms rest a)
 
-operated_weight : (op : Option OpAt) (old value : Expr) (m n : ℕ) → expr_weight old ≡ m → expr_weight value ≡ n → expr_weight (operated op old value) ≡ operated_count op m n
+operated_weight : (op : Option OpAt) (old value : Expr) (m n : ℕ) → expr_weight old ≡ m → expr_weight value ≡ n → expr_weight (operated_expr op old value) ≡ operated_count op m n
 operated_weight None old value m n h g = g
 operated_weight (Some o) old value m n h g = omega arith
 
@@ -141,14 +141,14 @@ module _ (text : Text) (called : ℕ → Inlined) (sizes : ℕ → ℕ) (right :
 
   locals_length : (s : List Slot) (slot : ℕ) (ls : List Declared) → stmts_length (lower_locals text s slot ls) ≡ length ls
   locals_length s slot [] = refl
-  locals_length s slot (l ∷ rest) = ap suc (locals_length (with_locals s slot (l ∷ [])) (slot + slots_of l.length) rest)
+  locals_length s slot (l ∷ rest) = ap suc (locals_length (with_local_slots s slot (l ∷ [])) (slot + slots_of l.length) rest)
 
   locals_terms : (s : List Slot) (slot : ℕ) (ls : List Declared) → stmts_terms (lower_locals text s slot ls) ≡ locals_count ls
   locals_terms s slot [] = refl
   locals_terms s slot (l ∷ rest) =
-      omega (arith, local_terms s slot l, locals_terms (with_locals s slot (l ∷ [])) (slot + slots_of l.length) rest)
+      omega (arith, local_terms s slot l, locals_terms (with_local_slots s slot (l ∷ [])) (slot + slots_of l.length) rest)
 
-  target_terms : (s : List Slot) (target : Written) (op : Option OpAt) (value : Term) →
+  target_terms : (s : List Slot) (target : PlainTarget) (op : Option OpAt) (value : Term) →
       stmt_terms (lower_target text s target op (lower_term text s value)) ≡ assign_count target.index op (term_count value)
   target_terms s target op value = pick target.index refl
     where

@@ -1,7 +1,7 @@
 -- The table of spans tells how many words threads take, up to the cap, and at least how deep they are.
 use Rattle.std.proofs.Common.{ℕ, zero, suc, ◌-◌, ◌^◌, ◌≡◌, ◌∙◌, min, ap, refl, true, Option, Some, None, List, [], ◌∷◌, ◌++◌, length, arith}
 use Rattle.forec_tree.specs.Terms.{count_terms, Statement, Declare, Nothing, Group, Assign, Invoke, If, While, For, Pause, Par, Abort, Return, Statements, no_statements, more_statements, Perhaps, absent, present, Branches, no_branches, by_call, by_group, Text, PlainFunction}
-use Rattle.forec_tree.specs.Pauses.{within, find_function, function_callees, callees_of, started, all_started, perhaps_started, branches_started}
+use Rattle.forec_tree.specs.Pauses.{within, find_function, function_callees, callees_of, started_names, all_started, perhaps_started, branches_started}
 use Rattle.forec_tree.specs.Faults.{is_in, Leads}
 use Rattle.forec_tree.proofs.Agrees.{in_left, in_right, in_head, in_tail}
 use Rattle.loop_check.specs.Graph.{IsOrder}
@@ -10,7 +10,7 @@ use Rattle.forec_check.specs.Table.{Settles}
 use Rattle.forec_check.proofs.TableLemmas.{started_settles}
 use Rattle.text_sizes.specs.declared.span.Span.{Span}
 use Rattle.text_sizes.specs.TermCounts.{slots, slots_all, slots_perhaps, statement_count}
-use Rattle.text_sizes.specs.Extents.{capped, exact}
+use Rattle.text_sizes.specs.Extents.{capped_size, exact}
 use Rattle.text_sizes.specs.Spans.{sequence_levels, levels, levels_all, levels_perhaps, block_levels, most, most_all, most_perhaps, most_branches, words_by, levels_by, no_span, span_at, span_by, span_step, span_value}
 
 -- ---- tables
@@ -41,22 +41,22 @@ module _ (c : ℕ) (In : ℕ → Type 0) where
 
   module _ (a b : ℕ → ℕ) (same : (g : ℕ) → In g → min (a g) c ≡ min (b g) c) where
     mutual
-      slots_near : (s : Statement) → Holds (started s) → min (slots a s) c ≡ min (slots b s) c
+      slots_near : (s : Statement) → Holds (started_names s) → min (slots a s) c ≡ min (slots b s) c
       slots_near (Nothing at) h = refl
       slots_near (Group at body) h = all_slots_near body h
       slots_near (Declare at locals) h = refl
       slots_near (Assign at target op value) h = refl
       slots_near (Invoke at name args) h = let e = same name.id (h name.id (in_head name.id [])) in omega (arith, e)
       slots_near (If at test x y) h =
-          let e = slots_near x (left_holds (started x) (perhaps_started y) h) in
-          let d = perhaps_slots_near y (right_holds (started x) (perhaps_started y) h) in
+          let e = slots_near x (left_holds (started_names x) (perhaps_started y) h) in
+          let d = perhaps_slots_near y (right_holds (started_names x) (perhaps_started y) h) in
           omega (arith, e, d)
       slots_near (While at test bound body) h = slots_near body h
       slots_near (For at start test step bound body) h =
-          let rest = right_holds (perhaps_started start) (perhaps_started step ++ started body) h in
-          let e = perhaps_slots_near start (left_holds (perhaps_started start) (perhaps_started step ++ started body) h) in
-          let d = perhaps_slots_near step (left_holds (perhaps_started step) (started body) rest) in
-          let f = slots_near body (right_holds (perhaps_started step) (started body) rest) in
+          let rest = right_holds (perhaps_started start) (perhaps_started step ++ started_names body) h in
+          let e = perhaps_slots_near start (left_holds (perhaps_started start) (perhaps_started step ++ started_names body) h) in
+          let d = perhaps_slots_near step (left_holds (perhaps_started step) (started_names body) rest) in
+          let f = slots_near body (right_holds (perhaps_started step) (started_names body) rest) in
           omega (arith, e, d, f)
       slots_near (Pause at) h = refl
       slots_near (Par at bs) h = refl
@@ -66,8 +66,8 @@ module _ (c : ℕ) (In : ℕ → Type 0) where
       all_slots_near : (s : Statements) → Holds (all_started s) → min (slots_all a s) c ≡ min (slots_all b s) c
       all_slots_near no_statements h = refl
       all_slots_near (more_statements x rest) h =
-          let e = slots_near x (left_holds (started x) (all_started rest) h) in
-          let d = all_slots_near rest (right_holds (started x) (all_started rest) h) in
+          let e = slots_near x (left_holds (started_names x) (all_started rest) h) in
+          let d = all_slots_near rest (right_holds (started_names x) (all_started rest) h) in
           omega (arith, e, d)
 
       perhaps_slots_near : (s : Perhaps) → Holds (perhaps_started s) → min (slots_perhaps a s) c ≡ min (slots_perhaps b s) c
@@ -75,22 +75,22 @@ module _ (c : ℕ) (In : ℕ → Type 0) where
       perhaps_slots_near (present x) h = slots_near x h
 
     mutual
-      levels_near : (s : Statement) → Holds (started s) → min (levels a s) c ≡ min (levels b s) c
+      levels_near : (s : Statement) → Holds (started_names s) → min (levels a s) c ≡ min (levels b s) c
       levels_near (Nothing at) h = refl
       levels_near (Group at body) h = sequence_near c (statement_count body) _ _ (all_levels_near body h)
       levels_near (Declare at locals) h = refl
       levels_near (Assign at target op value) h = refl
       levels_near (Invoke at name args) h = sequence_near c (suc (count_terms args)) _ _ (same name.id (h name.id (in_head name.id [])))
       levels_near (If at test x y) h =
-          let e = levels_near x (left_holds (started x) (perhaps_started y) h) in
-          let d = perhaps_levels_near y (right_holds (started x) (perhaps_started y) h) in
+          let e = levels_near x (left_holds (started_names x) (perhaps_started y) h) in
+          let d = perhaps_levels_near y (right_holds (started_names x) (perhaps_started y) h) in
           omega (arith, e, d)
       levels_near (While at test bound body) h = let e = levels_near body h in omega (arith, e)
       levels_near (For at start test step bound body) h =
-          let rest = right_holds (perhaps_started start) (perhaps_started step ++ started body) h in
-          let e = perhaps_levels_near start (left_holds (perhaps_started start) (perhaps_started step ++ started body) h) in
-          let d = perhaps_levels_near step (left_holds (perhaps_started step) (started body) rest) in
-          let f = levels_near body (right_holds (perhaps_started step) (started body) rest) in
+          let rest = right_holds (perhaps_started start) (perhaps_started step ++ started_names body) h in
+          let e = perhaps_levels_near start (left_holds (perhaps_started start) (perhaps_started step ++ started_names body) h) in
+          let d = perhaps_levels_near step (left_holds (perhaps_started step) (started_names body) rest) in
+          let f = levels_near body (right_holds (perhaps_started step) (started_names body) rest) in
           omega (arith, e, d, f)
       levels_near (Pause at) h = refl
       levels_near (Par at bs) h = refl
@@ -100,8 +100,8 @@ module _ (c : ℕ) (In : ℕ → Type 0) where
       all_levels_near : (s : Statements) → Holds (all_started s) → min (levels_all a s) c ≡ min (levels_all b s) c
       all_levels_near no_statements h = refl
       all_levels_near (more_statements x rest) h =
-          let e = levels_near x (left_holds (started x) (all_started rest) h) in
-          let d = all_levels_near rest (right_holds (started x) (all_started rest) h) in
+          let e = levels_near x (left_holds (started_names x) (all_started rest) h) in
+          let d = all_levels_near rest (right_holds (started_names x) (all_started rest) h) in
           omega (arith, e, d)
 
       perhaps_levels_near : (s : Perhaps) → Holds (perhaps_started s) → min (levels_perhaps a s) c ≡ min (levels_perhaps b s) c
@@ -115,22 +115,22 @@ module _ (c : ℕ) (In : ℕ → Type 0) where
       (f g : ℕ → ℕ → ℕ) (u v : Statements → ℕ) (p q : ℕ → ℕ) (names : (id k : ℕ) → In id → min (f id k) c ≡ min (g id k) c)
       (bodies : (s : Statements) → Holds (all_started s) → min (u s) c ≡ min (v s) c) (below : (id : ℕ) → In id → min (p id) c ≡ min (q id) c) where
     mutual
-      most_near : (s : Statement) → Holds (started s) → min (most f u p s) c ≡ min (most g v q s) c
+      most_near : (s : Statement) → Holds (started_names s) → min (most f u p s) c ≡ min (most g v q s) c
       most_near (Nothing at) h = refl
       most_near (Group at body) h = all_most_near body h
       most_near (Declare at locals) h = refl
       most_near (Assign at target op value) h = refl
       most_near (Invoke at name args) h = below name.id (h name.id (in_head name.id []))
       most_near (If at test x y) h =
-          let e = most_near x (left_holds (started x) (perhaps_started y) h) in
-          let d = perhaps_most_near y (right_holds (started x) (perhaps_started y) h) in
+          let e = most_near x (left_holds (started_names x) (perhaps_started y) h) in
+          let d = perhaps_most_near y (right_holds (started_names x) (perhaps_started y) h) in
           omega (arith, e, d)
       most_near (While at test bound body) h = most_near body h
       most_near (For at start test step bound body) h =
-          let rest = right_holds (perhaps_started start) (perhaps_started step ++ started body) h in
-          let e = perhaps_most_near start (left_holds (perhaps_started start) (perhaps_started step ++ started body) h) in
-          let d = perhaps_most_near step (left_holds (perhaps_started step) (started body) rest) in
-          let k = most_near body (right_holds (perhaps_started step) (started body) rest) in
+          let rest = right_holds (perhaps_started start) (perhaps_started step ++ started_names body) h in
+          let e = perhaps_most_near start (left_holds (perhaps_started start) (perhaps_started step ++ started_names body) h) in
+          let d = perhaps_most_near step (left_holds (perhaps_started step) (started_names body) rest) in
+          let k = most_near body (right_holds (perhaps_started step) (started_names body) rest) in
           omega (arith, e, d, k)
       most_near (Pause at) h = refl
       most_near (Par at bs) h = branches_most_near bs h
@@ -140,8 +140,8 @@ module _ (c : ℕ) (In : ℕ → Type 0) where
       all_most_near : (s : Statements) → Holds (all_started s) → min (most_all f u p s) c ≡ min (most_all g v q s) c
       all_most_near no_statements h = refl
       all_most_near (more_statements x rest) h =
-          let e = most_near x (left_holds (started x) (all_started rest) h) in
-          let d = all_most_near rest (right_holds (started x) (all_started rest) h) in
+          let e = most_near x (left_holds (started_names x) (all_started rest) h) in
+          let d = all_most_near rest (right_holds (started_names x) (all_started rest) h) in
           omega (arith, e, d)
 
       perhaps_most_near : (s : Perhaps) → Holds (perhaps_started s) → min (most_perhaps f u p s) c ≡ min (most_perhaps g v q s) c
@@ -200,10 +200,10 @@ module _ (In : ℕ → Type 0) (a b : ℕ → Span) (same : Alike In a b) (f : P
       all_most_near (2 ^ 64 - 1) In (levels_by (λ g. (a g).levels)) (levels_by (λ g. (b g).levels)) (block_levels (λ g. (a g).levels)) (block_levels (λ g. (b g).levels)) (λ g. (a g).deepest) (λ g. (b g).deepest) (λ id k i. same.levels id i)
       (block_levels_near (2 ^ 64 - 1) In (λ g. (a g).levels) (λ g. (b g).levels) same.levels) same.deepest f.body all
 
-  pub spans_alike : span_by capped a (Some f) ≡ span_by capped b (Some f)
+  pub spans_alike : span_by capped_size a (Some f) ≡ span_by capped_size b (Some f)
   spans_alike = by_four _ _ _ _ _ _ _ _ slots_same widest_same levels_same deepest_same
 
-span_same : (a b : ℕ → Span) (f : Option PlainFunction) → ((g : ℕ) → is_in g (function_callees f) ≡ true → a g ≡ b g) → span_by capped a f ≡ span_by capped b f
+span_same : (a b : ℕ → Span) (f : Option PlainFunction) → ((g : ℕ) → is_in g (function_callees f) ≡ true → a g ≡ b g) → span_by capped_size a f ≡ span_by capped_size b f
 span_same a b None h = refl
 span_same a b (Some f) h =
     spans_alike (λ g. is_in g (all_started f.body) ≡ true) a b
@@ -215,9 +215,9 @@ span_same a b (Some f) h =
     }) f (λ g i. i)
 
 pub spans_settle : (text : Text) (functions order : List ℕ) (calls : ℕ → List ℕ) → Read started_in text functions calls → IsOrder functions calls order → ((f : ℕ) → Leads (callees_of text) f f → ⊥) →
-    Settles no_span (span_step capped text) (span_value text) order
+    Settles no_span (span_step capped_size text) (span_value text) order
 unfolding span_value
-spans_settle text functions order calls r o free = started_settles no_span (span_by capped) (λ a. refl) span_same text functions order calls r o free
+spans_settle text functions order calls r o free = started_settles no_span (span_by capped_size) (λ a. refl) span_same text functions order calls r o free
 
 -- ---- what is exact and what is capped
 
@@ -230,7 +230,7 @@ pub record IsKept (kept whole : Span) : Type 0 where
 again : (a b : ℕ) → a ≡ min b (2 ^ 64 - 1) → min a (2 ^ 64 - 1) ≡ min b (2 ^ 64 - 1)
 again a b h = omega arith
 
-by_kept : (a b : ℕ → Span) (f : Option PlainFunction) → ((g : ℕ) → IsKept (a g) (b g)) → IsKept (span_by capped a f) (span_by exact b f)
+by_kept : (a b : ℕ → Span) (f : Option PlainFunction) → ((g : ℕ) → IsKept (a g) (b g)) → IsKept (span_by capped_size a f) (span_by exact b f)
 by_kept a b None h = record { slots = refl; widest = refl; levels = refl; deepest = refl }
 by_kept a b (Some f) h =
     let In : ℕ → Type 0 = λ g. Unit {0} in
@@ -248,10 +248,10 @@ by_kept a b (Some f) h =
       deepest = deepest_same In a b same f (λ g i. tt);
     }
 
-within_kept : (text : Text) (deep id : ℕ) → IsKept (within no_span (span_step capped text) deep id) (within no_span (span_step exact text) deep id)
+within_kept : (text : Text) (deep id : ℕ) → IsKept (within no_span (span_step capped_size text) deep id) (within no_span (span_step exact text) deep id)
 unfolding within
 within_kept text zero id = record { slots = refl; widest = refl; levels = refl; deepest = refl }
-within_kept text (suc deep) id = by_kept (within no_span (span_step capped text) deep) (within no_span (span_step exact text) deep) (find_function id text) (within_kept text deep)
+within_kept text (suc deep) id = by_kept (within no_span (span_step capped_size text) deep) (within no_span (span_step exact text) deep) (find_function id text) (within_kept text deep)
 
 pub span_kept : (text : Text) (id : ℕ) → IsKept (span_value text id) (within no_span (span_step exact text) (length text) id)
 unfolding span_value

@@ -8,11 +8,11 @@ use Rattle.text_sizes.specs.declared.extents.Extent.{Extent}
 use Rattle.text_sizes.specs.TermCounts.{sequence_count, statement_count, own_all, under_all}
 
 -- what is inlined where there is no function
-abbrev pub nothing : Extent
-nothing = record { own = 1; under = 0 }
+abbrev pub no_extent : Extent
+no_extent = record { own = 1; under = 0 }
 
 abbrev pub extent_at : List Extent → ℕ → Extent
-extent_at table id = slice_index_or table id nothing
+extent_at table id = slice_index_or table id no_extent
 
 abbrev pub own_at : List Extent → ℕ → ℕ
 own_at table id = (extent_at table id).own
@@ -27,7 +27,7 @@ IsBlockTerms table body n =
 
 -- with how a count is kept
 abbrev pub extent_by : (ℕ → ℕ) → (ℕ → Extent) → Option PlainFunction → Extent
-extent_by kept called None = nothing
+extent_by kept called None = no_extent
 extent_by kept called (Some f) =
     record {
       own = kept (sequence_count (statement_count f.body) (own_all (λ g. (called g).own) f.body));
@@ -40,14 +40,14 @@ extent_step kept text called id = extent_by kept called (find_function id text)
 abbrev pub exact : ℕ → ℕ
 exact n = n
 
-abbrev pub capped : ℕ → ℕ
-capped n = min n (2 ^ 64 - 1)
+abbrev pub capped_size : ℕ → ℕ
+capped_size n = min n (2 ^ 64 - 1)
 
 -- each count is at most the greatest number of 64 bits
 unfoldable pub extent_value : Text → ℕ → Extent
-extent_value text = within nothing (extent_step capped text) (length text)
+extent_value text = within no_extent (extent_step capped_size text) (length text)
 
 -- the terms of int functions, in which nothing is inlined
-abbrev pub counts_of : List PlainFunction → ℕ
-counts_of [] = 0
-counts_of (f ∷ rest) = sequence_count (statement_count f.body) (own_all (own_at []) f.body) + counts_of rest
+abbrev pub int_function_terms : List PlainFunction → ℕ
+int_function_terms [] = 0
+int_function_terms (f ∷ rest) = sequence_count (statement_count f.body) (own_all (own_at []) f.body) + int_function_terms rest

@@ -9,7 +9,7 @@ use Rattle.forec_tree.specs.Terms.{count_terms, Statement, Declare, Nothing, Gro
 use Rattle.forec_tree.specs.Pauses.{within, find_function}
 use Rattle.text_sizes.specs.declared.span.Span.{Span}
 use Rattle.text_sizes.specs.TermCounts.{slots_all, statement_count}
-use Rattle.text_sizes.specs.Extents.{capped}
+use Rattle.text_sizes.specs.Extents.{capped_size}
 
 -- a sequence of so many statements
 abbrev pub sequence_levels : ℕ → ℕ → ℕ
@@ -144,4 +144,4 @@ span_step kept text called id = span_by kept called (find_function id text)
 
 -- each number is at most the greatest of 64 bits
 unfoldable pub span_value : Text → ℕ → Span
-span_value text = within no_span (span_step capped text) (length text)
+span_value text = within no_span (span_step capped_size text) (length text)

@@ -6,10 +6,10 @@ ghost use Rattle.forec_tree.specs.Plain as plain;
 ghost use Rattle.forec_tree.specs.Faults.{Leads};
 ghost use Rattle.forec_tree.specs.Pauses.{callees_of};
 ghost use Rattle.forec_tree.specs.Plain.{perhaps_of};
-ghost use Rattle.loop_check.specs.Views.{text_of};
+ghost use Rattle.loop_check.specs.Views.{indexed_text};
 ghost use Rattle.forec_check.specs.Table.{Settles};
 ghost use Rattle.text_sizes.specs.TermCounts as counts;
-ghost use Rattle.text_sizes.specs.Extents.{nothing, extent_at, own_at, under_at, extent_step, capped, extent_value, counts_of, IsBlockTerms};
+ghost use Rattle.text_sizes.specs.Extents.{no_extent, extent_at, own_at, under_at, extent_step, capped_size, extent_value, int_function_terms, IsBlockTerms};
 ghost use Rattle.text_kernel.specs.Items.{functions_of};
 ghost use Rattle.text_kernel.specs.Kernels.{kernel_of, int_functions, main_id};
 ghost use Rattle.text_kernel.specs.Limits.{amount};
@@ -198,7 +198,7 @@ fn branches_under(table: &[Extent], list: &[Branch]) -> u64
 
 /// The terms of a function's text, by its number.
 fn function_extent(index: &Index<'_>, table: &[Extent], id: u32) -> Extent
-    ensures { result ≡ extent_step capped (text_of index.now) (extent_at table.now) id }
+    ensures { result ≡ extent_step capped_size (indexed_text index.now) (extent_at table.now) id }
 {
     match find_function(index, id) {
         None => Extent { own: 1, under: 0 },
@@ -214,8 +214,8 @@ fn function_extent(index: &Index<'_>, table: &[Extent], id: u32) -> Extent
 
 /// The extent of each function, each after those that it calls or starts.
 fn table_of(alloc: Global, index: &Index<'_>, order: &[u32]) -> Result<Vec<Extent>, OutOfMemory>
-    requires { Settles nothing (extent_step capped (text_of index.now)) (extent_value (text_of index.now)) order.now }
-    ensures { IfOk result (λ table. (id : ℕ) → extent_at table.items id ≡ extent_value (text_of index.now) id) }
+    requires { Settles no_extent (extent_step capped_size (indexed_text index.now)) (extent_value (indexed_text index.now)) order.now }
+    ensures { IfOk result (λ table. (id : ℕ) → extent_at table.items id ≡ extent_value (indexed_text index.now) id) }
 {
     let mut table = Vec::new(alloc);
     for f in order {
@@ -227,8 +227,8 @@ fn table_of(alloc: Global, index: &Index<'_>, order: &[u32]) -> Result<Vec<Exten
 
 /// The extents of the functions of a program in which none reaches itself by statements and branches.
 pub fn extents(alloc: Global, index: &Index<'_>) -> Result<Vec<Extent>, OutOfMemory>
-    requires { (f : ℕ) → Leads (callees_of (text_of index.now)) f f → ⊥ }
-    ensures { IfOk result (λ table. (id : ℕ) → extent_at table.items id ≡ extent_value (text_of index.now) id) }
+    requires { (f : ℕ) → Leads (callees_of (indexed_text index.now)) f f → ⊥ }
+    ensures { IfOk result (λ table. (id : ℕ) → extent_at table.items id ≡ extent_value (indexed_text index.now) id) }
 {
     let calls = read_calls(alloc, index)?;
     let order = order(alloc, &calls.functions, &calls.lists)?;
@@ -238,7 +238,7 @@ pub fn extents(alloc: Global, index: &Index<'_>) -> Result<Vec<Extent>, OutOfMem
 
 /// The terms of int functions, in which nothing is inlined.
 fn function_terms(functions: &[&Function]) -> u64
-    ensures { result ≡ min (counts_of (functions_of functions.now)) (2 ^ 64 - 1) }
+    ensures { result ≡ min (int_function_terms (functions_of functions.now)) (2 ^ 64 - 1) }
 {
     let mut total = 0;
     for function in functions {
@@ -256,10 +256,10 @@ pub fn program_terms(
     functions: &[&Function],
     first: u32,
 ) -> Result<u64, OutOfMemory>
-    requires free { (f : ℕ) → Leads (callees_of (text_of index.now)) f f → ⊥ }
-    requires functions { functions_of functions.now ≡ int_functions (text_of index.now) names.now (text_of index.now) }
-    requires first { first ≡ main_id (text_of index.now) names.now }
-    ensures { IfOk result (λ n. n ≡ min (amount Terms (kernel_of (text_of index.now) names.now)) (2 ^ 64 - 1)) }
+    requires free { (f : ℕ) → Leads (callees_of (indexed_text index.now)) f f → ⊥ }
+    requires functions { functions_of functions.now ≡ int_functions (indexed_text index.now) names.now (indexed_text index.now) }
+    requires first { first ≡ main_id (indexed_text index.now) names.now }
+    ensures { IfOk result (λ n. n ≡ min (amount Terms (kernel_of (indexed_text index.now) names.now)) (2 ^ 64 - 1)) }
 {
     let table = extents(alloc, index)?;
     let main = known_of(&table, first);

@@ -3,9 +3,9 @@
 ghost use Rattle.std.specs.Prelude.{◌≡◌, ℕ, IfOk};
 ghost use Rattle.forec_tree.specs.Faults.{Leads};
 ghost use Rattle.forec_tree.specs.Pauses.{callees_of};
-ghost use Rattle.loop_check.specs.Views.{text_of};
+ghost use Rattle.loop_check.specs.Views.{indexed_text};
 ghost use Rattle.forec_check.specs.Table.{Settles};
-ghost use Rattle.text_sizes.specs.Extents.{capped};
+ghost use Rattle.text_sizes.specs.Extents.{capped_size};
 ghost use Rattle.text_sizes.specs.Spans as of;
 ghost use Rattle.text_sizes.specs.Spans.{IsWidest, IsWidestOfOptional, IsWidestOfAll, IsWidestOfBranches, IsDeepest, IsDeepestOfOptional, IsDeepestOfAll, IsDeepestOfBranches};
 
@@ -162,7 +162,7 @@ fn branches_deepest(table: &[Span], list: &[Branch]) -> u64
 
 /// What is known of a function by its text, by its number.
 fn function_span(index: &Index<'_>, table: &[Span], id: u32) -> Span
-    ensures { result ≡ of.span_step capped (text_of index.now) (of.span_at table.now) id }
+    ensures { result ≡ of.span_step capped_size (indexed_text index.now) (of.span_at table.now) id }
 {
     match find_function(index, id) {
         None => no_span(),
@@ -180,8 +180,8 @@ fn function_span(index: &Index<'_>, table: &[Span], id: u32) -> Span
 
 /// What is known of each function, each after those that it calls or starts.
 fn table_of(alloc: Global, index: &Index<'_>, order: &[u32]) -> Result<Vec<Span>, OutOfMemory>
-    requires { Settles of.no_span (of.span_step capped (text_of index.now)) (of.span_value (text_of index.now)) order.now }
-    ensures { IfOk result (λ table. (id : ℕ) → of.span_at table.items id ≡ of.span_value (text_of index.now) id) }
+    requires { Settles of.no_span (of.span_step capped_size (indexed_text index.now)) (of.span_value (indexed_text index.now)) order.now }
+    ensures { IfOk result (λ table. (id : ℕ) → of.span_at table.items id ≡ of.span_value (indexed_text index.now) id) }
 {
     let mut table = Vec::new(alloc);
     for f in order {
@@ -193,8 +193,8 @@ fn table_of(alloc: Global, index: &Index<'_>, order: &[u32]) -> Result<Vec<Span>
 
 /// What is known of the functions of a program in which none reaches itself by statements and branches.
 pub fn spans(alloc: Global, index: &Index<'_>) -> Result<Vec<Span>, OutOfMemory>
-    requires { (f : ℕ) → Leads (callees_of (text_of index.now)) f f → ⊥ }
-    ensures { IfOk result (λ table. (id : ℕ) → of.span_at table.items id ≡ of.span_value (text_of index.now) id) }
+    requires { (f : ℕ) → Leads (callees_of (indexed_text index.now)) f f → ⊥ }
+    ensures { IfOk result (λ table. (id : ℕ) → of.span_at table.items id ≡ of.span_value (indexed_text index.now) id) }
 {
     let calls = read_calls(alloc, index)?;
     let order = order(alloc, &calls.functions, &calls.lists)?;

@@ -5,7 +5,7 @@ use Rattle.forec_base.specs.declared.Place.{Place}
 use Rattle.forec_tree.specs.declared.token.Token.{Token}
 use Rattle.forec_tree.specs.declared.token.TokenKind.TheVariants as kind
 use Rattle.forec_tree.specs.Lexis.{Piece, blank, name, number, word, mark, FitsAhead, NextPiece, NothingFits}
-use Rattle.forec_tree.specs.LexedText.{number_of, names_after, token_at, slice, place_at, Cuts, begins, skips, takes, Lexes, max_tokens, IsLexed, IsBad, IsMany}
+use Rattle.forec_tree.specs.LexedText.{name_number, names_after, token_at, slice, place_at, Cuts, begins, skips, takes, Lexes, max_tokens, IsLexed, IsBad, IsMany}
 use Rattle.forec_lexer.proofs.FrontLemmas.{some_byte}
 
 -- ---- where something fits, a piece is the longest
@@ -39,7 +39,7 @@ record Cut (text : List ℕ) (at : ℕ) : Type 0 where
 next_cut : (text : List ℕ) (at n : ℕ) (p : Piece) → Cut text at → NextPiece (drop at text) p n → Cut text (at + n)
 next_cut text at n blank c x = record { tokens = c.tokens; names = c.names; cuts = skips n c.cuts x }
 next_cut text at n name c x =
-    let k = kind.Name (number_of c.names (slice text at n)) in
+    let k = kind.Name (name_number c.names (slice text at n)) in
     record { tokens = c.tokens ++ token_at text at n k ∷ []; names = names_after c.names name (slice text at n); cuts = takes name n k c.cuts x refl }
 next_cut text at n (number i) c x =
     record { tokens = c.tokens ++ token_at text at n (kind.Number i) ∷ []; names = c.names; cuts = takes (number i) n (kind.Number i) c.cuts x refl }

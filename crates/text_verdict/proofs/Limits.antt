@@ -4,7 +4,7 @@ use Rattle.forec_kernel.specs.Shapes.{PlainKernel}
 use Rattle.forec_tree.specs.Terms.{Text}
 use Rattle.forec_tree.specs.Faults.{Member, here, later}
 use Rattle.text_kernel.specs.Kernels.{kernel_of}
-use Rattle.text_kernel.specs.Limits.{amount, limit_of, earlier, Fits, WithinLimits, IsLimit}
+use Rattle.text_kernel.specs.Limits.{amount, limit_of, earlier, IsWithinLimit, WithinLimits, IsLimit}
 use Rattle.text_kernel.specs.declared.limits.Quantity.{Quantity}
 use Rattle.text_kernel.specs.declared.limits.Quantity.TheVariants.{Threads, Words, Globals, Tables, Terms, Depth}
 
@@ -53,7 +53,7 @@ order Depth Terms = second (later (later (later (later here))))
 order Depth Depth = same refl
 
 -- a limit that is passed isn't kept
-passed : (text : Text) (names : List (List ℕ)) (q : Quantity) → limit_of q < amount q (kernel_of text names) → Fits (kernel_of text names) q → ⊥
+passed : (text : Text) (names : List (List ℕ)) (q : Quantity) → limit_of q < amount q (kernel_of text names) → IsWithinLimit (kernel_of text names) q → ⊥
 passed text names q p f = omega arith
 
 pub one_limit : (text : Text) (names : List (List ℕ)) (p q : Quantity) (m n : ℕ) → IsLimit text names p m → IsLimit text names q n → (p ≡ q) × (m ≡ n)
@@ -69,7 +69,7 @@ no_limit text names q n w x = passed text names q x.passes (w q)
 
 -- a quantity keeps its limit, or passes it
 data Kept (k : PlainKernel) (q : Quantity) : Type 0 where
-  fits : Fits k q → Kept k q
+  fits : IsWithinLimit k q → Kept k q
   over : limit_of q < amount q k → Kept k q
 
 kept : (k : PlainKernel) (q : Quantity) → Kept k q
@@ -95,28 +95,28 @@ module _ (text : Text) (names : List (List ℕ)) where
   abbrev Passes : Type 0
   Passes = (q : Quantity) × IsLimit text names q (limit_of q)
 
-  passes : (q : Quantity) → limit_of q < amount q kernel → ((p : Quantity) → Member p (earlier q) → Fits kernel p) → Passes
+  passes : (q : Quantity) → limit_of q < amount q kernel → ((p : Quantity) → Member p (earlier q) → IsWithinLimit kernel p) → Passes
   passes q p f = (q, record { passes = p; first = f; is = refl })
 
-  before_threads : (p : Quantity) → Member p (earlier Threads) → Fits kernel p
-  before_threads = no_member (Fits kernel)
+  before_threads : (p : Quantity) → Member p (earlier Threads) → IsWithinLimit kernel p
+  before_threads = no_member (IsWithinLimit kernel)
 
-  before_words : Fits kernel Threads → (p : Quantity) → Member p (earlier Words) → Fits kernel p
-  before_words f0 = one_member (Fits kernel) Threads _ f0 (no_member (Fits kernel))
+  before_words : IsWithinLimit kernel Threads → (p : Quantity) → Member p (earlier Words) → IsWithinLimit kernel p
+  before_words f0 = one_member (IsWithinLimit kernel) Threads _ f0 (no_member (IsWithinLimit kernel))
 
-  before_globals : Fits kernel Threads → Fits kernel Words → (p : Quantity) → Member p (earlier Globals) → Fits kernel p
-  before_globals f0 f1 = one_member (Fits kernel) Threads _ f0 (one_member (Fits kernel) Words _ f1 (no_member (Fits kernel)))
+  before_globals : IsWithinLimit kernel Threads → IsWithinLimit kernel Words → (p : Quantity) → Member p (earlier Globals) → IsWithinLimit kernel p
+  before_globals f0 f1 = one_member (IsWithinLimit kernel) Threads _ f0 (one_member (IsWithinLimit kernel) Words _ f1 (no_member (IsWithinLimit kernel)))
 
-  before_tables : Fits kernel Threads → Fits kernel Words → Fits kernel Globals → (p : Quantity) → Member p (earlier Tables) → Fits kernel p
-  before_tables f0 f1 f2 = one_member (Fits kernel) Threads _ f0 (one_member (Fits kernel) Words _ f1 (one_member (Fits kernel) Globals _ f2 (no_member (Fits kernel))))
+  before_tables : IsWithinLimit kernel Threads → IsWithinLimit kernel Words → IsWithinLimit kernel Globals → (p : Quantity) → Member p (earlier Tables) → IsWithinLimit kernel p
+  before_tables f0 f1 f2 = one_member (IsWithinLimit kernel) Threads _ f0 (one_member (IsWithinLimit kernel) Words _ f1 (one_member (IsWithinLimit kernel) Globals _ f2 (no_member (IsWithinLimit kernel))))
 
-  before_terms : Fits kernel Threads → Fits kernel Words → Fits kernel Globals → Fits kernel Tables → (p : Quantity) → Member p (earlier Terms) → Fits kernel p
-  before_terms f0 f1 f2 f3 = one_member (Fits kernel) Threads _ f0 (one_member (Fits kernel) Words _ f1 (one_member (Fits kernel) Globals _ f2 (one_member (Fits kernel) Tables _ f3 (no_member (Fits kernel)))))
+  before_terms : IsWithinLimit kernel Threads → IsWithinLimit kernel Words → IsWithinLimit kernel Globals → IsWithinLimit kernel Tables → (p : Quantity) → Member p (earlier Terms) → IsWithinLimit kernel p
+  before_terms f0 f1 f2 f3 = one_member (IsWithinLimit kernel) Threads _ f0 (one_member (IsWithinLimit kernel) Words _ f1 (one_member (IsWithinLimit kernel) Globals _ f2 (one_member (IsWithinLimit kernel) Tables _ f3 (no_member (IsWithinLimit kernel)))))
 
-  before_depth : Fits kernel Threads → Fits kernel Words → Fits kernel Globals → Fits kernel Tables → Fits kernel Terms → (p : Quantity) → Member p (earlier Depth) → Fits kernel p
-  before_depth f0 f1 f2 f3 f4 = one_member (Fits kernel) Threads _ f0 (one_member (Fits kernel) Words _ f1 (one_member (Fits kernel) Globals _ f2 (one_member (Fits kernel) Tables _ f3 (one_member (Fits kernel) Terms _ f4 (no_member (Fits kernel))))))
+  before_depth : IsWithinLimit kernel Threads → IsWithinLimit kernel Words → IsWithinLimit kernel Globals → IsWithinLimit kernel Tables → IsWithinLimit kernel Terms → (p : Quantity) → Member p (earlier Depth) → IsWithinLimit kernel p
+  before_depth f0 f1 f2 f3 f4 = one_member (IsWithinLimit kernel) Threads _ f0 (one_member (IsWithinLimit kernel) Words _ f1 (one_member (IsWithinLimit kernel) Globals _ f2 (one_member (IsWithinLimit kernel) Tables _ f3 (one_member (IsWithinLimit kernel) Terms _ f4 (no_member (IsWithinLimit kernel))))))
 
-  within : Fits kernel Threads → Fits kernel Words → Fits kernel Globals → Fits kernel Tables → Fits kernel Terms → Fits kernel Depth → WithinLimits kernel
+  within : IsWithinLimit kernel Threads → IsWithinLimit kernel Words → IsWithinLimit kernel Globals → IsWithinLimit kernel Tables → IsWithinLimit kernel Terms → IsWithinLimit kernel Depth → WithinLimits kernel
   within a b c d e f Threads = a
   within a b c d e f Words = b
   within a b c d e f Globals = c
@@ -124,38 +124,38 @@ module _ (text : Text) (names : List (List ℕ)) where
   within a b c d e f Terms = e
   within a b c d e f Depth = f
 
-  decide_6 : Fits kernel Threads → Fits kernel Words → Fits kernel Globals → Fits kernel Tables → Fits kernel Terms → Fits kernel Depth → WithinLimits kernel ⊎ Passes
+  decide_6 : IsWithinLimit kernel Threads → IsWithinLimit kernel Words → IsWithinLimit kernel Globals → IsWithinLimit kernel Tables → IsWithinLimit kernel Terms → IsWithinLimit kernel Depth → WithinLimits kernel ⊎ Passes
   decide_6 a b c d e f = inl (within a b c d e f)
 
-  decide_5 : Fits kernel Threads → Fits kernel Words → Fits kernel Globals → Fits kernel Tables → Fits kernel Terms → WithinLimits kernel ⊎ Passes
+  decide_5 : IsWithinLimit kernel Threads → IsWithinLimit kernel Words → IsWithinLimit kernel Globals → IsWithinLimit kernel Tables → IsWithinLimit kernel Terms → WithinLimits kernel ⊎ Passes
   decide_5 a b c d e = by (kept kernel Depth)
     where
       by : Kept kernel Depth → WithinLimits kernel ⊎ Passes
       by (fits x) = decide_6 a b c d e x
       by (over x) = inr (passes Depth x (before_depth a b c d e))
 
-  decide_4 : Fits kernel Threads → Fits kernel Words → Fits kernel Globals → Fits kernel Tables → WithinLimits kernel ⊎ Passes
+  decide_4 : IsWithinLimit kernel Threads → IsWithinLimit kernel Words → IsWithinLimit kernel Globals → IsWithinLimit kernel Tables → WithinLimits kernel ⊎ Passes
   decide_4 a b c d = by (kept kernel Terms)
     where
       by : Kept kernel Terms → WithinLimits kernel ⊎ Passes
       by (fits x) = decide_5 a b c d x
       by (over x) = inr (passes Terms x (before_terms a b c d))
 
-  decide_3 : Fits kernel Threads → Fits kernel Words → Fits kernel Globals → WithinLimits kernel ⊎ Passes
+  decide_3 : IsWithinLimit kernel Threads → IsWithinLimit kernel Words → IsWithinLimit kernel Globals → WithinLimits kernel ⊎ Passes
   decide_3 a b c = by (kept kernel Tables)
     where
       by : Kept kernel Tables → WithinLimits kernel ⊎ Passes
       by (fits x) = decide_4 a b c x
       by (over x) = inr (passes Tables x (before_tables a b c))
 
-  decide_2 : Fits kernel Threads → Fits kernel Words → WithinLimits kernel ⊎ Passes
+  decide_2 : IsWithinLimit kernel Threads → IsWithinLimit kernel Words → WithinLimits kernel ⊎ Passes
   decide_2 a b = by (kept kernel Globals)
     where
       by : Kept kernel Globals → WithinLimits kernel ⊎ Passes
       by (fits x) = decide_3 a b x
       by (over x) = inr (passes Globals x (before_globals a b))
 
-  decide_1 : Fits kernel Threads → WithinLimits kernel ⊎ Passes
+  decide_1 : IsWithinLimit kernel Threads → WithinLimits kernel ⊎ Passes
   decide_1 a = by (kept kernel Words)
     where
       by : Kept kernel Words → WithinLimits kernel ⊎ Passes

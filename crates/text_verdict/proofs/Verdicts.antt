@@ -8,10 +8,10 @@ use Rattle.forec_tree.specs.LexedText.{IsLexed}
 use Rattle.forec_tree.specs.SpelledPrograms.{IsSpelled}
 use Rattle.forec_tree.specs.Terms.{Text}
 use Rattle.forec_tree.specs.Faults.{IsFault}
-use Rattle.forec_check.specs.Checked.{Causes}
+use Rattle.forec_check.specs.Checked.{HasCheckCause}
 use Rattle.forec_check.specs.declared.check_fault.CheckFault.{CheckFault}
 use Rattle.forec_check.specs.declared.check_fault.CheckFault.TheVariants as check
-use Rattle.forec_lexer.specs.Answers.{HasCause}
+use Rattle.forec_lexer.specs.Answers.{HasLexCause}
 use Rattle.forec_lexer.specs.declared.fault.LexFault.{LexFault}
 use Rattle.forec_lexer.specs.declared.fault.LexFault.TheVariants as lexer
 use Rattle.forec_lexer.proofs.OneWay.{one_lexed, lexed_not_bad, lexed_not_many, bad_not_many, one_bad, one_many}
@@ -25,7 +25,7 @@ use Rattle.text_kernel.specs.declared.limits.Quantity.{Quantity}
 use Rattle.kernel_lower.specs.Refusals as refusals
 use Rattle.kernel_lower.specs.declared.lower_fault.LowerFault.{LowerFault}
 use Rattle.kernel_lower.specs.declared.lower_fault.LowerFault.TheVariants as lower
-use Rattle.text_verdict.specs.Judging.{most_bytes, most_levels, Verdict, Accepts, Refuses, OnUnbroken, accepted, beyond, OnProgram, broken, unbroken, OnTokens, spelled, stuck, too_deep, place_of, Tells, Judged, too_long, stops, too_many, lexed, Says, lexer_fault, parser_fault, check_fault, lower_fault}
+use Rattle.text_verdict.specs.Judging.{most_text_bytes, most_levels, Verdict, Accepts, Refuses, OnUnbroken, accepted, beyond, OnProgram, broken, unbroken, OnTokens, spelled, stuck, too_deep, token_place, NamesFault, Judged, too_long, stops, too_many, lexed, GivesVerdict, lexer_fault, parser_fault, check_fault, lower_fault}
 use Rattle.text_verdict.specs.Counting.{counts_of}
 use Rattle.text_verdict.specs.Laws.{OneVerdict}
 use Rattle.text_verdict.specs.declared.counts.Counts.{Counts}
@@ -67,11 +67,11 @@ module _ (one_program : OneProgram) where
   one_on_tokens text tokens names v w (spelled p s x) (stuck n y) = absurd (spelled_never_stops most_levels tokens p n s y)
   one_on_tokens text tokens names v w (spelled p s x) (too_deep n y) = absurd (spelled_never_opens most_levels tokens p n s y)
   one_on_tokens text tokens names v w (stuck n x) (spelled q t y) = absurd (spelled_never_stops most_levels tokens q n t x)
-  one_on_tokens text tokens names v w (stuck n x) (stuck m y) = ap (λ z. Refuses (why.Syntax (place_of text tokens z))) (one_stop most_levels tokens n m x y)
+  one_on_tokens text tokens names v w (stuck n x) (stuck m y) = ap (λ z. Refuses (why.Syntax (token_place text tokens z))) (one_stop most_levels tokens n m x y)
   one_on_tokens text tokens names v w (stuck n x) (too_deep m y) = absurd (stops_or_opens most_levels tokens n m x y)
   one_on_tokens text tokens names v w (too_deep n x) (spelled q t y) = absurd (spelled_never_opens most_levels tokens q n t x)
   one_on_tokens text tokens names v w (too_deep n x) (stuck m y) = absurd (stops_or_opens most_levels tokens m n y x)
-  one_on_tokens text tokens names v w (too_deep n x) (too_deep m y) = ap (λ z. Refuses (why.Deep (place_of text tokens z))) (one_opening most_levels tokens n m x y)
+  one_on_tokens text tokens names v w (too_deep n x) (too_deep m y) = ap (λ z. Refuses (why.Deep (token_place text tokens z))) (one_opening most_levels tokens n m x y)
 
   one_of_lexed : (text : List ℕ) (ts us : List Token) (ns ms : List (List ℕ)) (v w : Verdict) → IsLexed text ts ns → IsLexed text us ms
       → OnTokens text ts ns v → OnTokens text us ms w → v ≡ w
@@ -98,7 +98,7 @@ module _ (one_program : OneProgram) where
   one_verdict text v w (lexed ts ns le x s) (lexed us ms ge y t) = one_of_lexed text ts us ns ms v w x y s t
 
 -- a text that is too long is refused for that alone
-pub only_long : (text : List ℕ) (v : Verdict) → most_bytes < length text → Judged text v → v ≡ Refuses why.Long
+pub only_long : (text : List ℕ) (v : Verdict) → most_text_bytes < length text → Judged text v → v ≡ Refuses why.Long
 only_long text v h (too_long i) = refl
 only_long text v h (stops q le y) = absurd (omega arith)
 only_long text v h (too_many q le y) = absurd (omega arith)
@@ -122,75 +122,75 @@ some_on_program program names never = some_on_unbroken program names (λ v x. ne
 some_on_tokens : (text : List ℕ) (tokens : List Token) (names : List (List ℕ)) → ((v : Verdict) → OnTokens text tokens names v → ⊥) → ⊥
 some_on_tokens text tokens names never =
     some_answer most_levels tokens (λ program s. some_on_program program names (λ v x. never v (spelled program s x)))
-    (λ n x. never (Refuses (why.Syntax (place_of text tokens n))) (stuck n x)) (λ n x. never (Refuses (why.Deep (place_of text tokens n))) (too_deep n x))
+    (λ n x. never (Refuses (why.Syntax (token_place text tokens n))) (stuck n x)) (λ n x. never (Refuses (why.Deep (token_place text tokens n))) (too_deep n x))
 
 pub some_verdict : (text : List ℕ) → ((v : Verdict) → Judged text v → ⊥) → ⊥
-some_verdict text never = by (nat_lt most_bytes (length text)) refl
+some_verdict text never = by (nat_lt most_text_bytes (length text)) refl
   where
-    by : (t : Bool) → nat_lt most_bytes (length text) ≡ t → ⊥
-    by true e = never (Refuses why.Long) (too_long (ltb-true most_bytes (length text) e))
+    by : (t : Bool) → nat_lt most_text_bytes (length text) ≡ t → ⊥
+    by true e = never (Refuses why.Long) (too_long (ltb-true most_text_bytes (length text) e))
     by false e =
-        let short = ltb-false most_bytes (length text) e in
+        let short = ltb-false most_text_bytes (length text) e in
         some_lexing text (λ ts ns x. some_on_tokens text ts ns (λ v t. never v (lexed ts ns short x t)))
         (λ p x. never (Refuses (why.Lex p)) (stops p short x)) (λ p x. never (Refuses (why.Many p)) (too_many p short x))
 
 -- ---- what code says
 
-pub says_too : (P Q : Verdict → Type 0) → ((v : Verdict) → P v → Q v) → (r : Result Accepted JudgeFault) → Says P r → Says Q r
+pub says_too : (P Q : Verdict → Type 0) → ((v : Verdict) → P v → Q v) → (r : Result Accepted JudgeFault) → GivesVerdict P r → GivesVerdict Q r
 says_too P Q f (Ok a) h = f (Accepts a.counts (plain_kernel a.kernel)) h
 says_too P Q f (Err (fault.Refused why)) h = f (Refuses why) h
 says_too P Q f (Err fault.OutOfMemory) h = tt
 
-pub said_of_text : (text : List ℕ) (tokens : List Token) (names : List (List ℕ)) → length text ≤ most_bytes → IsLexed text tokens names →
-    (r : Result Accepted JudgeFault) → Says (OnTokens text tokens names) r → Says (Judged text) r
+pub said_of_text : (text : List ℕ) (tokens : List Token) (names : List (List ℕ)) → length text ≤ most_text_bytes → IsLexed text tokens names →
+    (r : Result Accepted JudgeFault) → GivesVerdict (OnTokens text tokens names) r → GivesVerdict (Judged text) r
 said_of_text text tokens names short is r h = says_too (OnTokens text tokens names) (Judged text) (λ v x. lexed tokens names short is x) r h
 
 pub said_of_tokens : (text : List ℕ) (tokens : List Token) (names : List (List ℕ)) (program : Text) → IsSpelled most_levels program tokens →
-    (r : Result Accepted JudgeFault) → Says (OnProgram program names) r → Says (OnTokens text tokens names) r
+    (r : Result Accepted JudgeFault) → GivesVerdict (OnProgram program names) r → GivesVerdict (OnTokens text tokens names) r
 said_of_tokens text tokens names program spells r h = says_too (OnProgram program names) (OnTokens text tokens names) (λ v x. spelled program spells x) r h
 
 abbrev given : JudgeFault → Result Accepted JudgeFault
 given e = Err e
 
-told_exactly : (text : List ℕ) (f : LexFault) → length text ≤ most_bytes → HasCause text f → Says (Judged text) (given (lexer_fault f))
+told_exactly : (text : List ℕ) (f : LexFault) → length text ≤ most_text_bytes → HasLexCause text f → GivesVerdict (Judged text) (given (lexer_fault f))
 told_exactly text (lexer.Bad p) le h = stops p le h
 told_exactly text (lexer.Many p) le h = too_many p le h
 told_exactly text lexer.OutOfMemory le h = tt
 
-pub told : (text : List ℕ) (f : LexFault) (e : JudgeFault) → length text ≤ most_bytes → HasCause text f → e ≡ lexer_fault f → Says (Judged text) (given e)
-told text f e le h is = subst (λ x. Says (Judged text) (given x)) (sym is) (told_exactly text f le h)
+pub told : (text : List ℕ) (f : LexFault) (e : JudgeFault) → length text ≤ most_text_bytes → HasLexCause text f → e ≡ lexer_fault f → GivesVerdict (Judged text) (given e)
+told text f e le h is = subst (λ x. GivesVerdict (Judged text) (given x)) (sym is) (told_exactly text f le h)
 
-parsed_exactly : (text : List ℕ) (tokens : List Token) (f : ParseFault) → parser_spec.HasCause tokens f → Tells text tokens (parser_fault text tokens f)
+parsed_exactly : (text : List ℕ) (tokens : List Token) (f : ParseFault) → parser_spec.HasParseCause tokens f → NamesFault text tokens (parser_fault text tokens f)
 parsed_exactly text tokens (parser.Syntax n) h = λ names. stuck n h
 parsed_exactly text tokens (parser.Deep n) h = λ names. too_deep n h
 parsed_exactly text tokens parser.OutOfMemory h = tt
 
-pub told_by_parser : (text : List ℕ) (tokens : List Token) (f : ParseFault) (e : JudgeFault) → parser_spec.HasCause tokens f → e ≡ parser_fault text tokens f → Tells text tokens e
-told_by_parser text tokens f e h is = subst (λ x. Tells text tokens x) (sym is) (parsed_exactly text tokens f h)
+pub told_by_parser : (text : List ℕ) (tokens : List Token) (f : ParseFault) (e : JudgeFault) → parser_spec.HasParseCause tokens f → e ≡ parser_fault text tokens f → NamesFault text tokens e
+told_by_parser text tokens f e h is = subst (λ x. NamesFault text tokens x) (sym is) (parsed_exactly text tokens f h)
 
-told_names : (text : List ℕ) (tokens : List Token) (names : List (List ℕ)) (f : JudgeFault) → Tells text tokens f → Says (OnTokens text tokens names) (given f)
+told_names : (text : List ℕ) (tokens : List Token) (names : List (List ℕ)) (f : JudgeFault) → NamesFault text tokens f → GivesVerdict (OnTokens text tokens names) (given f)
 told_names text tokens names (fault.Refused why) h = h names
 told_names text tokens names fault.OutOfMemory h = tt
 
-pub told_of_tokens : (text : List ℕ) (ts tokens : List Token) (names : List (List ℕ)) (f e : JudgeFault) → ts ≡ tokens → Tells text ts f → e ≡ f → Says (OnTokens text tokens names) (given e)
+pub told_of_tokens : (text : List ℕ) (ts tokens : List Token) (names : List (List ℕ)) (f e : JudgeFault) → ts ≡ tokens → NamesFault text ts f → e ≡ f → GivesVerdict (OnTokens text tokens names) (given e)
 told_of_tokens text ts tokens names f e same h is =
-    let P : List Token → Type 0 = λ z. Tells text z f in
-    subst (λ x. Says (OnTokens text tokens names) (given x)) (sym is) (told_names text tokens names f (subst P same h))
+    let P : List Token → Type 0 = λ z. NamesFault text z f in
+    subst (λ x. GivesVerdict (OnTokens text tokens names) (given x)) (sym is) (told_names text tokens names f (subst P same h))
 
-checked_exactly : (program : Text) (names : List (List ℕ)) (f : CheckFault) → Causes f program names → Says (OnProgram program names) (given (check_fault f))
+checked_exactly : (program : Text) (names : List (List ℕ)) (f : CheckFault) → HasCheckCause f program names → GivesVerdict (OnProgram program names) (given (check_fault f))
 checked_exactly program names (check.Broken place rule) h = broken place rule h
 checked_exactly program names check.OutOfMemory h = tt
 
-pub told_by_check : (program : Text) (names : List (List ℕ)) (f : CheckFault) (e : JudgeFault) → Causes f program names → e ≡ check_fault f → Says (OnProgram program names) (given e)
-told_by_check program names f e h is = subst (λ x. Says (OnProgram program names) (given x)) (sym is) (checked_exactly program names f h)
+pub told_by_check : (program : Text) (names : List (List ℕ)) (f : CheckFault) (e : JudgeFault) → HasCheckCause f program names → e ≡ check_fault f → GivesVerdict (OnProgram program names) (given e)
+told_by_check program names f e h is = subst (λ x. GivesVerdict (OnProgram program names) (given x)) (sym is) (checked_exactly program names f h)
 
-lowered_exactly : (program : Text) (names : List (List ℕ)) (f : LowerFault) → refusals.Causes f program names → Says (OnUnbroken program names) (given (lower_fault f))
+lowered_exactly : (program : Text) (names : List (List ℕ)) (f : LowerFault) → refusals.HasLowerCause f program names → GivesVerdict (OnUnbroken program names) (given (lower_fault f))
 lowered_exactly program names (lower.Limit what count) h = beyond what count h
 lowered_exactly program names lower.OutOfMemory h = tt
 
-pub told_by_lower : (program : Text) (names : List (List ℕ)) (f : LowerFault) (e : JudgeFault) → refusals.Causes f program names → e ≡ lower_fault f →
-    Says (OnUnbroken program names) (given e)
-told_by_lower program names f e h is = subst (λ x. Says (OnUnbroken program names) (given x)) (sym is) (lowered_exactly program names f h)
+pub told_by_lower : (program : Text) (names : List (List ℕ)) (f : LowerFault) (e : JudgeFault) → refusals.HasLowerCause f program names → e ≡ lower_fault f →
+    GivesVerdict (OnUnbroken program names) (given e)
+told_by_lower program names f e h is = subst (λ x. GivesVerdict (OnUnbroken program names) (given x)) (sym is) (lowered_exactly program names f h)
 
 -- a kernel that is the text's
 pub told_kernel : (program : Text) (names : List (List ℕ)) (c : Counts) (k : PlainKernel) → c ≡ counts_of program names → k ≡ kernel_of program names → WithinLimits (kernel_of program names) →

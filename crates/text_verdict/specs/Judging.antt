@@ -30,8 +30,8 @@ use Rattle.text_verdict.specs.declared.refusal.Refusal.TheVariants as why
 use Rattle.text_verdict.specs.declared.refusal.JudgeFault.{JudgeFault}
 use Rattle.text_verdict.specs.declared.refusal.JudgeFault.TheVariants as fault
 
-abbrev pub most_bytes : ℕ
-most_bytes = MAX_TEXT_BYTES
+abbrev pub most_text_bytes : ℕ
+most_text_bytes = MAX_TEXT_BYTES
 
 -- the greatest level of a program
 abbrev pub most_levels : ℕ
@@ -83,28 +83,28 @@ place_by text (Some t) = t.place
 place_by text None = fold place_after first_place text
 
 -- the place of the token with this number, counted from 0
-abbrev pub place_of : List ℕ → List Token → ℕ → Place
-place_of text tokens n = place_by text (slice_get tokens n)
+abbrev pub token_place : List ℕ → List Token → ℕ → Place
+token_place text tokens n = place_by text (slice_get tokens n)
 
 -- the verdict on the tokens of a text
 pub data OnTokens (text : List ℕ) (tokens : List Token) (names : List (List ℕ)) : Verdict → Type 0 where
   spelled : {v : Verdict} (program : Text) → IsSpelled most_levels program tokens → OnProgram program names v → OnTokens text tokens names v
-  stuck : (n : ℕ) → StopsAt most_levels tokens n → OnTokens text tokens names (Refuses (why.Syntax (place_of text tokens n)))
-  too_deep : (n : ℕ) → OpensAt most_levels tokens n → OnTokens text tokens names (Refuses (why.Deep (place_of text tokens n)))
+  stuck : (n : ℕ) → StopsAt most_levels tokens n → OnTokens text tokens names (Refuses (why.Syntax (token_place text tokens n)))
+  too_deep : (n : ℕ) → OpensAt most_levels tokens n → OnTokens text tokens names (Refuses (why.Deep (token_place text tokens n)))
 
 -- the verdict on a text
 pub data Judged (text : List ℕ) : Verdict → Type 0 where
-  too_long : most_bytes < length text → Judged text (Refuses why.Long)
-  stops : (place : Place) → length text ≤ most_bytes → IsBad text place → Judged text (Refuses (why.Lex place))
-  too_many : (place : Place) → length text ≤ most_bytes → IsMany text place → Judged text (Refuses (why.Many place))
-  lexed : {v : Verdict} (tokens : List Token) (names : List (List ℕ)) → length text ≤ most_bytes → IsLexed text tokens names → OnTokens text tokens names v
+  too_long : most_text_bytes < length text → Judged text (Refuses why.Long)
+  stops : (place : Place) → length text ≤ most_text_bytes → IsBad text place → Judged text (Refuses (why.Lex place))
+  too_many : (place : Place) → length text ≤ most_text_bytes → IsMany text place → Judged text (Refuses (why.Many place))
+  lexed : {v : Verdict} (tokens : List Token) (names : List (List ℕ)) → length text ≤ most_text_bytes → IsLexed text tokens names → OnTokens text tokens names v
       → Judged text v
 
 -- what code that judges ensures: its verdict is one that holds, unless memory fails
-abbrev pub Says : (Verdict → Type 0) → Result Accepted JudgeFault → Type 0
-Says Holds (Ok a) = Holds (Accepts a.counts (plain_kernel a.kernel))
-Says Holds (Err (fault.Refused why)) = Holds (Refuses why)
-Says Holds (Err fault.OutOfMemory) = Unit {0}
+abbrev pub GivesVerdict : (Verdict → Type 0) → Result Accepted JudgeFault → Type 0
+GivesVerdict Holds (Ok a) = Holds (Accepts a.counts (plain_kernel a.kernel))
+GivesVerdict Holds (Err (fault.Refused why)) = Holds (Refuses why)
+GivesVerdict Holds (Err fault.OutOfMemory) = Unit {0}
 
 -- what a fault of the lexer is for the text
 abbrev pub lexer_fault : LexFault → JudgeFault
@@ -114,14 +114,14 @@ lexer_fault lexer.OutOfMemory = fault.OutOfMemory
 
 -- what a fault of the parser is for the text
 abbrev pub parser_fault : List ℕ → List Token → ParseFault → JudgeFault
-parser_fault text tokens (parser.Syntax n) = fault.Refused (why.Syntax (place_of text tokens n))
-parser_fault text tokens (parser.Deep n) = fault.Refused (why.Deep (place_of text tokens n))
+parser_fault text tokens (parser.Syntax n) = fault.Refused (why.Syntax (token_place text tokens n))
+parser_fault text tokens (parser.Deep n) = fault.Refused (why.Deep (token_place text tokens n))
 parser_fault text tokens parser.OutOfMemory = fault.OutOfMemory
 
 -- what is reported of tokens that are refused, whatever their names
-abbrev pub Tells : List ℕ → List Token → JudgeFault → Type 0
-Tells text tokens (fault.Refused why) = (names : List (List ℕ)) → OnTokens text tokens names (Refuses why)
-Tells text tokens fault.OutOfMemory = Unit {0}
+abbrev pub NamesFault : List ℕ → List Token → JudgeFault → Type 0
+NamesFault text tokens (fault.Refused why) = (names : List (List ℕ)) → OnTokens text tokens names (Refuses why)
+NamesFault text tokens fault.OutOfMemory = Unit {0}
 
 -- what a fault of the check is for the text
 abbrev pub check_fault : CheckFault → JudgeFault

@@ -2,8 +2,8 @@
 
 ghost use Rattle.std.specs.Prelude.{◌≡◌, ◌≤◌, IfOk};
 ghost use Rattle.forec_tree.specs.Threads.{instances};
-ghost use Rattle.forec_check.specs.Instances.{start_of};
-ghost use Rattle.forec_check.specs.Checked.{text_of, names_of};
+ghost use Rattle.forec_check.specs.Instances.{main_number};
+ghost use Rattle.forec_check.specs.Checked.{checked_text, names_of};
 ghost use Rattle.text_verdict.specs.Counting.{counts_of};
 
 use forec_base::{MAX_THREADS, OutOfMemory};
@@ -20,8 +20,8 @@ pub struct Counts {
 
 /// Counts a program that has not too many threads, in time linear in its text.
 pub fn count(alloc: Global, checked: &Checked<'_>) -> Result<Counts, OutOfMemory>
-    requires { instances (text_of checked.now) (start_of (names_of checked.now) (text_of checked.now)) ≤ MAX_THREADS }
-    ensures { IfOk result (λ c. c ≡ counts_of (text_of checked.now) (names_of checked.now)) }
+    requires { instances (checked_text checked.now) (main_number (names_of checked.now) (checked_text checked.now)) ≤ MAX_THREADS }
+    ensures { IfOk result (λ c. c ≡ counts_of (checked_text checked.now) (names_of checked.now)) }
 {
     let threads = checked.threads(alloc)?;
     Ok(Counts {

@@ -2,8 +2,8 @@
 ghost use Rattle.std.specs.Prelude.{◌≡◌, ◌≤◌, length, IfOk, IfErr};
 ghost use Rattle.forec_tree.specs.Plain.{program};
 ghost use Rattle.forec_tree.specs.SpelledPrograms.{IsSpelled};
-ghost use Rattle.forec_check.specs.Checked.{text_of, names_of};
-ghost use Rattle.text_verdict.specs.Judging.{most_levels, place_of, parser_fault, Judged, OnUnbroken, Says, Tells};
+ghost use Rattle.forec_check.specs.Checked.{checked_text, names_of};
+ghost use Rattle.text_verdict.specs.Judging.{most_levels, token_place, parser_fault, Judged, OnUnbroken, GivesVerdict, NamesFault};
 
 use crate::counts::{Counts, count};
 use crate::refusal::{JudgeFault, Refusal};
@@ -26,7 +26,7 @@ pub struct Accepted {
 /// The place of a token, counted from 0, or that after the text where it has no more.
 fn token_place(text: &[u8], tokens: &[Token], token: u32) -> Place
     requires { length text.now ≤ MAX_TEXT_BYTES }
-    ensures { result ≡ place_of text.now tokens.now token }
+    ensures { result ≡ token_place text.now tokens.now token }
 {
     match tokens.get(token as usize) {
         Some(token) => token.place,
@@ -59,7 +59,7 @@ fn read(alloc: Global, text: &[u8], tokens: &[Token]) -> Result<Program, JudgeFa
     requires short { length text.now ≤ MAX_TEXT_BYTES }
     requires few { length tokens.now ≤ 200000 }
     ensures found { IfOk result (λ p. IsSpelled most_levels (program p) tokens.now) }
-    ensures refused { IfErr result (Tells text.now tokens.now) }
+    ensures refused { IfErr result (NamesFault text.now tokens.now) }
 {
     match parse(alloc, tokens) {
         Ok(program) => Ok(program),
@@ -68,7 +68,7 @@ fn read(alloc: Global, text: &[u8], tokens: &[Token]) -> Result<Program, JudgeFa
 }
 
 fn accept(alloc: Global, checked: &Checked<'_>, deepest: u64) -> Result<Accepted, JudgeFault>
-    ensures { Says (OnUnbroken (text_of checked.now) (names_of checked.now)) result }
+    ensures { GivesVerdict (OnUnbroken (checked_text checked.now) (names_of checked.now)) result }
 {
     let kernel = lower_within(alloc, checked, checked.names(), deepest)?;
     let counts = count(alloc, checked)?;
@@ -82,7 +82,7 @@ fn accept(alloc: Global, checked: &Checked<'_>, deepest: u64) -> Result<Accepted
 /// Out of memory, also where more than `deepest` statements nest in a thread of the program.
 pub fn judge(alloc: Global, text: &[u8], deepest: u64) -> Result<Accepted, JudgeFault>
     requires { length text.now ≤ MAX_TEXT_BYTES }
-    ensures { Says (Judged text.now) result }
+    ensures { GivesVerdict (Judged text.now) result }
 {
     let lexed = lex(alloc, text)?;
     let program = read(alloc, text, &lexed.tokens)?;

@@ -18,8 +18,8 @@ use Rattle.thread_code.specs.declared.instruction.Instruction.{Instruction}
 use Rattle.thread_code.specs.declared.instruction.Instruction.TheVariants as instruction
 use Rattle.thread_code.specs.Plain.{PlainBlock, PlainCode}
 use Rattle.thread_code.specs.Valid.{of_shape, branches_in, arguments_of, function_arguments}
-use Rattle.thread_code.specs.Machine.{Point, BranchCopy, Total, Merge, Frame, Caller, Folding, Own, Awaited, Machine, On, Waits, Merges, Failing, Paused, Ended, Trapped, Exceeded, Stuck, onward, with_top, with_arguments, unless_none, turn_taken, put_at, put_value, entered, uses_of, settled, folded, merge_step, returned, living, handed, starts, wakes, awaited, waking, act, step, replied, join}
-use Rattle.thread_code.specs.Alone.{woken, view_of, code_engine}
+use Rattle.thread_code.specs.Machine.{Point, BranchCopy, Total, Merge, Frame, Caller, Folding, Own, Awaited, Machine, On, Waits, Merges, Failing, Paused, Ended, Trapped, Exceeded, Stuck, onward, with_top, with_arguments, unless_none, turn_taken, put_at, put_value, entered, code_uses, settled, folded, merge_step, returned, living, handed, starts, wakes, awaited, waking, act, step, replied, join}
+use Rattle.thread_code.specs.Alone.{woken_machine, view_of, code_engine}
 use Rattle.thread_code.specs.Laws.{FitsThread, FitsReply, FitBranches, FitForks, JobsFit, OutputsFit, JobsAndRepliesFit}
 
 -- ---- lengths
@@ -76,15 +76,15 @@ living_below n live (b ∷ bs) h = by_test (get_or live b false) (living_below n
 
 module _ (c : PlainCode) (t : ℕ) where
   abbrev Fit : Seed → Type 0
-  Fit (Starts b args values) = (b < length c.shape.threads) × (length args ≡ params_in c.shape.threads b) × (length values ≡ length (uses_of c b))
-  Fit (Wakes b values) = (b < length c.shape.threads) × (length values ≡ length (uses_of c b))
+  Fit (Starts b args values) = (b < length c.shape.threads) × (length args ≡ params_in c.shape.threads b) × (length values ≡ length (code_uses c b))
+  Fit (Wakes b values) = (b < length c.shape.threads) × (length values ≡ length (code_uses c b))
 
   abbrev All_fit : List Seed → Type 0
   All_fit [] = Unit {0}
   All_fit (s ∷ ss) = Fit s × All_fit ss
 
-  hands : (copies : List VarCopy) (b : ℕ) → length (handed c t copies b) ≡ length (uses_of c b)
-  hands copies b = length-map (handed_down (uses_of c t) copies (uses_of c b)) (λ (x : VarCopy). x.value) ∙ handed_length (uses_of c t) copies (uses_of c b)
+  hands : (copies : List VarCopy) (b : ℕ) → length (handed c t copies b) ≡ length (code_uses c b)
+  hands copies b = length-map (handed_down (code_uses c t) copies (code_uses c b)) (λ (x : VarCopy). x.value) ∙ handed_length (code_uses c t) copies (code_uses c b)
 
   starts_fit : (copies : List VarCopy) (bs : List ℕ) (args : List ℤ) → All_below (length c.shape.threads) bs → length args ≡ arguments_of c.shape bs →
       All_fit (starts c t copies bs args)
@@ -100,12 +100,12 @@ module _ (c : PlainCode) (t : ℕ) where
   -- ---- a step
 
   abbrev Sized : Machine → Type 0
-  Sized (On p fs o u) = length o.copies ≡ length (uses_of c t)
-  Sized (Waits w o u) = (length o.copies ≡ length (uses_of c t)) × All_fit w.seeds
-  Sized (Merges m o u) = length o.copies ≡ length (uses_of c t)
+  Sized (On p fs o u) = length o.copies ≡ length (code_uses c t)
+  Sized (Waits w o u) = (length o.copies ≡ length (code_uses c t)) × All_fit w.seeds
+  Sized (Merges m o u) = length o.copies ≡ length (code_uses c t)
   Sized (Failing place trap u) = Unit {0}
-  Sized (Paused wake o u) = length o.copies ≡ length (uses_of c t)
-  Sized (Ended o u) = length o.copies ≡ length (uses_of c t)
+  Sized (Paused wake o u) = length o.copies ≡ length (code_uses c t)
+  Sized (Ended o u) = length o.copies ≡ length (code_uses c t)
   Sized (Trapped place trap u) = Unit {0}
   Sized (Exceeded u) = Unit {0}
   Sized (Stuck u) = Unit {0}
@@ -128,33 +128,33 @@ module _ (c : PlainCode) (t : ℕ) where
   turn_sized zero place u go h = tt
   turn_sized (suc n) place u go h = h n
 
-  enter_sized : (b : Option PlainBlock) (args : List ℤ) (fs : List Frame) (o : Own) (u : ℕ) → length o.copies ≡ length (uses_of c t) → Sized (entered b args fs o u)
+  enter_sized : (b : Option PlainBlock) (args : List ℤ) (fs : List Frame) (o : Own) (u : ℕ) → length o.copies ≡ length (code_uses c t) → Sized (entered b args fs o u)
   enter_sized None args fs o u h = tt
   enter_sized (Some b) args fs o u h = h
 
-  fold_sized : (s : BranchCopy) (m : Merge) (o : Own) (u : ℕ) (combine : Option ℕ) (total : Option ℤ) → length o.copies ≡ length (uses_of c t) →
+  fold_sized : (s : BranchCopy) (m : Merge) (o : Own) (u : ℕ) (combine : Option ℕ) (total : Option ℤ) → length o.copies ≡ length (code_uses c t) →
       Sized (folded c t s m o u combine total)
   fold_sized s m o u combine None h = h
   fold_sized s m o u None (Some n) h = h
   fold_sized s m o u (Some f) (Some n) h = enter_sized (slice_get c.functions f) _ _ o u h
 
-  test_sized : (b : Bool) (s : BranchCopy) (m : Merge) (o : Own) (u : ℕ) (combine : Option ℕ) (total : Option ℤ) → length o.copies ≡ length (uses_of c t) →
+  test_sized : (b : Bool) (s : BranchCopy) (m : Merge) (o : Own) (u : ℕ) (combine : Option ℕ) (total : Option ℤ) → length o.copies ≡ length (code_uses c t) →
       Sized (elim b [ true ↦ folded c t s m o u combine total | false ↦ Merges m o u ])
   test_sized true s m o u combine total h = fold_sized s m o u combine total h
   test_sized false s m o u combine total h = h
 
-  merge_sized : (left : List BranchCopy) (m : Merge) (o : Own) (u : ℕ) → length o.copies ≡ length (uses_of c t) → Sized (merge_step c t left m o u)
+  merge_sized : (left : List BranchCopy) (m : Merge) (o : Own) (u : ℕ) → length o.copies ≡ length (code_uses c t) → Sized (merge_step c t left m o u)
   merge_sized [] m o u h = settled_length m.totals o.copies ∙ h
   merge_sized (s ∷ rest) m o u h =
       let v = variable_of (of_shape c.shape) s.variable in
-      test_sized (takes_part v.policy (copy_of (uses_of c t) o.copies s.variable).value s.copy) s _ o u v.combine _ h
+      test_sized (takes_part v.policy (copy_of (code_uses c t) o.copies s.variable).value s.copy) s _ o u v.combine _ h
 
-  return_sized : (n : ℤ) (fs : List Frame) (o : Own) (u : ℕ) → length o.copies ≡ length (uses_of c t) → Sized (returned c t n fs o u)
+  return_sized : (n : ℤ) (fs : List Frame) (o : Own) (u : ℕ) → length o.copies ≡ length (code_uses c t) → Sized (returned c t n fs o u)
   return_sized n [] o u h = tt
   return_sized n (Caller p ∷ fs) o u h = h
   return_sized n (Folding v m ∷ fs) o u h = h
 
-  wake_sized : (bs : List ℕ) (to : ℕ) (p : Point) (fs : List Frame) (o : Own) (u : ℕ) → All_below (length c.shape.threads) bs → length o.copies ≡ length (uses_of c t) →
+  wake_sized : (bs : List ℕ) (to : ℕ) (p : Point) (fs : List Frame) (o : Own) (u : ℕ) → All_below (length c.shape.threads) bs → length o.copies ≡ length (code_uses c t) →
       Sized (waking c t bs to p fs o u)
   wake_sized [] to p fs o u below h = h
   wake_sized (b ∷ bs) to p fs o u below h = (h, wakes_fit o.copies (b ∷ bs) below)
@@ -162,7 +162,7 @@ module _ (c : PlainCode) (t : ℕ) where
   below_of : (j : ℕ) → All_below (length c.shape.threads) (branches_in c.shape j)
   below_of j = branches_below c.shape.threads 0 j (length c.shape.threads) (omega arith)
 
-  act_sized : (i : Option Instruction) (p : Point) (fs : List Frame) (o : Own) (u : ℕ) → length o.copies ≡ length (uses_of c t) → Sized (act c t i p fs o u)
+  act_sized : (i : Option Instruction) (p : Point) (fs : List Frame) (o : Own) (u : ℕ) → length o.copies ≡ length (code_uses c t) → Sized (act c t i p fs o u)
   act_sized None p fs o u h = tt
   act_sized (Some (instruction.Push n)) p fs o u h = h
   act_sized (Some (instruction.Quiet n)) p fs o u h = h
@@ -179,14 +179,14 @@ module _ (c : PlainCode) (t : ℕ) where
       top_sized p.stack u _ (λ i rest. unless_sized (index_in (length table) i) place Index (u + 1) (λ k. On (onward p (word table k ∷ rest)) fs o (u + 1)) (λ k. h))
   act_sized (Some (instruction.Get v)) p fs o u h = h
   act_sized (Some (instruction.Put v)) p fs o u h =
-      top_sized p.stack u _ (λ n rest. put_length (uses_of c t) o.copies v (record { value = n; modified = true }) ∙ h)
+      top_sized p.stack u _ (λ n rest. put_length (code_uses c t) o.copies v (record { value = n; modified = true }) ∙ h)
   act_sized (Some (instruction.GetAt v n place)) p fs o u h =
       top_sized p.stack u _ (λ i rest. unless_sized (index_in n i) place Index (u + 1)
-      (λ k. On (onward p ((copy_of (uses_of c t) o.copies (v + k)).value ∷ rest)) fs o (u + 1)) (λ k. h))
+      (λ k. On (onward p ((copy_of (code_uses c t) o.copies (v + k)).value ∷ rest)) fs o (u + 1)) (λ k. h))
   act_sized (Some (instruction.PutAt v n place)) p fs o u h =
       top_sized p.stack u _ (λ x below. top_sized below u _ (λ i rest. unless_sized (index_in n i) place Index (u + 1)
-      (λ k. On (onward p rest) fs (put_value (uses_of c t) (v + k) x o) (u + 1))
-      (λ k. put_length (uses_of c t) o.copies (v + k) (record { value = x; modified = true }) ∙ h)))
+      (λ k. On (onward p rest) fs (put_value (code_uses c t) (v + k) x o) (u + 1))
+      (λ k. put_length (code_uses c t) o.copies (v + k) (record { value = x; modified = true }) ∙ h)))
   act_sized (Some (instruction.Unary op)) p fs o u h = top_sized p.stack u _ (λ n rest. h)
   act_sized (Some (instruction.Binary op place)) p fs o u h =
       top_sized p.stack u _ (λ y below. top_sized below u _ (λ x rest. unless_sized (binary_of op x y) (place_or place) Divide (u + 1)
@@ -226,14 +226,14 @@ module _ (c : PlainCode) (t : ℕ) where
   step_sized (Exceeded u) h = tt
   step_sized (Stuck u) h = tt
 
-  replied_sized : (w : Awaited) (all rs : List Reply) (o : Own) (u : ℕ) → length o.copies ≡ length (uses_of c t) → Sized (replied c t w all rs o u)
+  replied_sized : (w : Awaited) (all rs : List Reply) (o : Own) (u : ℕ) → length o.copies ≡ length (code_uses c t) → Sized (replied c t w all rs o u)
   replied_sized w all [] o u h = h
   replied_sized w all (WasTrapped place trap v ∷ rs) o u h = tt
   replied_sized w all (WasPaused copies v ∷ rs) o u h = replied_sized w all rs o u h
   replied_sized w all (WasEnded copies v ∷ rs) o u h = replied_sized w all rs o u h
   replied_sized w all (WasOver ∷ rs) o u h = replied_sized w all rs o u h
 
-  over_sized : (b : Bool) (w : Awaited) (rs : List Reply) (o : Own) (u : ℕ) → length o.copies ≡ length (uses_of c t) →
+  over_sized : (b : Bool) (w : Awaited) (rs : List Reply) (o : Own) (u : ℕ) → length o.copies ≡ length (code_uses c t) →
       Sized (elim b [ true ↦ Exceeded u | false ↦ replied c t w rs rs o (u + all_units rs) ])
   over_sized true w rs o u h = tt
   over_sized false w rs o u h = replied_sized w rs rs o (u + all_units rs) h
@@ -252,7 +252,7 @@ module _ (c : PlainCode) (t : ℕ) where
   unmarked_length : (values : List ℤ) → length (unmarked_copies values) ≡ length values
   unmarked_length values = length-map values (λ n. record { value = n; modified = false })
 
-  woken_sized : (values : List ℤ) (m : Machine) → length values ≡ length (uses_of c t) → Sized m → Sized (woken values m)
+  woken_sized : (values : List ℤ) (m : Machine) → length values ≡ length (code_uses c t) → Sized m → Sized (woken_machine values m)
   woken_sized values (Paused wake o u) e h = unmarked_length values ∙ e
   woken_sized values (On p fs o u) e h = h
   woken_sized values (Waits w o u) e h = h

@@ -38,11 +38,11 @@ flag_value false = 0
 flag_value true = 1
 
 -- a word with one operand, and with two
-abbrev pub one : List ℕ → ℕ → List ℕ
-one word a = word ++ codes " " ++ decimal a
+abbrev pub one_operand : List ℕ → ℕ → List ℕ
+one_operand word a = word ++ codes " " ++ decimal a
 
-abbrev pub two : List ℕ → ℕ → ℕ → List ℕ
-two word a b = one word a ++ codes " " ++ decimal b
+abbrev pub two_operands : List ℕ → ℕ → ℕ → List ℕ
+two_operands word a b = one_operand word a ++ codes " " ++ decimal b
 
 -- an instruction that can trap ends with the trap's place
 abbrev pub trapping : List ℕ → Place → List ℕ
@@ -51,34 +51,34 @@ trapping text place = text ++ codes " @" ++ decimal place.line ++ codes ":" ++ d
 abbrev pub instruction_text : Instruction → List ℕ
 instruction_text (Push n) = codes "push " ++ signed_decimal n
 instruction_text (Quiet n) = codes "quiet " ++ signed_decimal n
-instruction_text (Load x) = one (codes "load") x
-instruction_text (Store x) = one (codes "store") x
-instruction_text (LoadAt x n place) = trapping (two (codes "loadat") x n) place
-instruction_text (StoreAt x n place) = trapping (two (codes "storeat") x n) place
-instruction_text (Clear x n) = two (codes "clear") x n
-instruction_text (Table t place) = trapping (one (codes "table") t) place
-instruction_text (Get v) = one (codes "get") v
-instruction_text (Put v) = one (codes "put") v
-instruction_text (GetAt v n place) = trapping (two (codes "getat") v n) place
-instruction_text (PutAt v n place) = trapping (two (codes "putat") v n) place
+instruction_text (Load x) = one_operand (codes "load") x
+instruction_text (Store x) = one_operand (codes "store") x
+instruction_text (LoadAt x n place) = trapping (two_operands (codes "loadat") x n) place
+instruction_text (StoreAt x n place) = trapping (two_operands (codes "storeat") x n) place
+instruction_text (Clear x n) = two_operands (codes "clear") x n
+instruction_text (Table t place) = trapping (one_operand (codes "table") t) place
+instruction_text (Get v) = one_operand (codes "get") v
+instruction_text (Put v) = one_operand (codes "put") v
+instruction_text (GetAt v n place) = trapping (two_operands (codes "getat") v n) place
+instruction_text (PutAt v n place) = trapping (two_operands (codes "putat") v n) place
 instruction_text (Unary op) = codes "unary " ++ unary_name op
 instruction_text (Binary op None) = codes "binary " ++ binary_name op
 instruction_text (Binary op (Some place)) = trapping (codes "binary " ++ binary_name op) place
 instruction_text Truth = codes "truth"
-instruction_text (Zero to) = one (codes "zero") to
-instruction_text (NonZero to) = one (codes "nonzero") to
-instruction_text (Jump to) = one (codes "jump") to
-instruction_text (Count n) = one (codes "unit") n
-instruction_text (Fill w n) = two (codes "fill") w n
-instruction_text (Turn w place) = trapping (one (codes "turn") w) place
-instruction_text (Flag f value) = two (codes "flag") f (flag_value value)
-instruction_text (Keep f) = one (codes "keep") f
-instruction_text (Flagged f to) = two (codes "flagged") f to
-instruction_text (Fork j to) = two (codes "fork") j to
-instruction_text (Again j to) = two (codes "again") j to
-instruction_text (Pause to) = one (codes "pause") to
+instruction_text (Zero to) = one_operand (codes "zero") to
+instruction_text (NonZero to) = one_operand (codes "nonzero") to
+instruction_text (Jump to) = one_operand (codes "jump") to
+instruction_text (Count n) = one_operand (codes "unit") n
+instruction_text (Fill w n) = two_operands (codes "fill") w n
+instruction_text (Turn w place) = trapping (one_operand (codes "turn") w) place
+instruction_text (Flag f value) = two_operands (codes "flag") f (flag_value value)
+instruction_text (Keep f) = one_operand (codes "keep") f
+instruction_text (Flagged f to) = two_operands (codes "flagged") f to
+instruction_text (Fork j to) = two_operands (codes "fork") j to
+instruction_text (Again j to) = two_operands (codes "again") j to
+instruction_text (Pause to) = one_operand (codes "pause") to
 instruction_text End = codes "end"
-instruction_text (Call f) = one (codes "call") f
+instruction_text (Call f) = one_operand (codes "call") f
 instruction_text Return = codes "return"
 
 -- one line for each instruction, from an address on
@@ -89,7 +89,7 @@ steps_text p (i ∷ is) = (decimal p ++ codes " " ++ instruction_text i ++ codes
 -- a line for each block, from a number on, and its instructions under it
 abbrev pub blocks_text : List ℕ → ℕ → List PlainBlock → List ℕ
 blocks_text word n [] = []
-blocks_text word n (b ∷ bs) = (one word n ++ codes "\n") ++ steps_text 0 b.steps ++ blocks_text word (n + 1) bs
+blocks_text word n (b ∷ bs) = (one_operand word n ++ codes "\n") ++ steps_text 0 b.steps ++ blocks_text word (n + 1) bs
 
 -- the threads in order, then the functions
 abbrev pub listing_of : PlainCode → List ℕ

@@ -4,7 +4,7 @@ ghost use Rattle.std.specs.Prelude.{◌≡◌, ◌++◌, Some, map, string_bytes
 ghost use Rattle.std.specs.Fmt.{DisplaysOnOk};
 ghost use Rattle.thread_code.specs.declared.instruction.Instruction.TheVariants as instruction;
 ghost use Rattle.thread_code.specs.Plain.{plain_code, plain_block};
-ghost use Rattle.thread_code.specs.Listing.{unary_name, binary_name, one, two, trapping, instruction_text, steps_text, blocks_text, listing_of};
+ghost use Rattle.thread_code.specs.Listing.{unary_name, binary_name, one_operand, two_operands, trapping, instruction_text, steps_text, blocks_text, listing_of};
 
 use crate::code::Code;
 use crate::instruction::{Block, Instruction};
@@ -47,7 +47,7 @@ fn binary_word(op: Binary) -> &'static str
 }
 
 fn write_one<W: fmt::Write>(f: &mut fmt::Formatter<W>, word: &str, first: u32) -> fmt::Result
-    ensures { DisplaysOnOk W.write_str_gives f.old result (Some (one word.now first)) f.new }
+    ensures { DisplaysOnOk W.write_str_gives f.old result (Some (one_operand word.now first)) f.new }
 {
     write!(f, "{word} {first}")
 }
@@ -58,7 +58,7 @@ fn write_two<W: fmt::Write>(
     first: u32,
     second: u32,
 ) -> fmt::Result
-    ensures { DisplaysOnOk W.write_str_gives f.old result (Some (two word.now first second)) f.new }
+    ensures { DisplaysOnOk W.write_str_gives f.old result (Some (two_operands word.now first second)) f.new }
 {
     write!(f, "{word} {first} {second}")
 }
@@ -69,7 +69,7 @@ fn write_one_at<W: fmt::Write>(
     first: u32,
     at: Place,
 ) -> fmt::Result
-    ensures { DisplaysOnOk W.write_str_gives f.old result (Some (trapping (one word.now first) at)) f.new }
+    ensures { DisplaysOnOk W.write_str_gives f.old result (Some (trapping (one_operand word.now first) at)) f.new }
 {
     write!(f, "{word} {first} @{}:{}", at.line, at.column)
 }
@@ -81,7 +81,7 @@ fn write_two_at<W: fmt::Write>(
     second: u32,
     at: Place,
 ) -> fmt::Result
-    ensures { DisplaysOnOk W.write_str_gives f.old result (Some (trapping (two word.now first second) at)) f.new }
+    ensures { DisplaysOnOk W.write_str_gives f.old result (Some (trapping (two_operands word.now first second) at)) f.new }
 {
     write!(f, "{word} {first} {second} @{}:{}", at.line, at.column)
 }

@@ -8,7 +8,7 @@ use Rattle.core_alloc.specs.declared.fault.PlaceFault.{PlaceFault}
 use Rattle.core_alloc.specs.declared.fault.PlaceFault.TheVariants.{Shape, Count, Core}
 use Rattle.core_alloc.specs.declared.ranked.Ranked.{Ranked}
 use Rattle.core_alloc.specs.Balance.{ranked_from, Balance, placed, placed_all, nothing_placed, balance_of, IsBalanced}
-use Rattle.core_alloc.specs.Places.{Places, numbers_in, is_core, refusal}
+use Rattle.core_alloc.specs.Places.{Places, piece_numbers, is_core, refusal}
 use Rattle.command_words.specs.Requests.{PlainPlacing}
 use Rattle.forec_kernel.specs.Shapes.{PlainKernel}
 use Rattle.thread_places.specs.Laws.{OnePlacement, SomePlacement}
@@ -78,7 +78,7 @@ values_within (Some n ∷ numbers) all = ap (λ ns. Some n ∷ ns) (values_withi
 
 module _ (text : List ℕ) (threads cores : ℕ) (none : refusal text threads cores ≡ None) where
   abbrev numbers : List (Option ℕ)
-  numbers = numbers_in text
+  numbers = piece_numbers text
 
   abbrev shapes : Option PlaceFault
   shapes = option_map (λ at. Shape at) (position is_none numbers)
@@ -104,11 +104,11 @@ same_text text other e = cc
 
 listed_one : (k : PlainKernel) (p : PlainPlacing) (text : List ℕ) → p.list ≡ Some text → refusal text (length k.threads) p.cores ≡ None → (a : Places) × IsPlacement k p a
 listed_one k p text is none = (
-  record { cores = p.cores; places = map value_of (numbers_in text) },
+  record { cores = p.cores; places = map value_of (piece_numbers text) },
   record {
     cores = refl;
-    threads = length-map (numbers_in text) value_of ∙ as_many text (length k.threads) p.cores none;
-    listed = λ other e. each_number text (length k.threads) p.cores none ∙ ap numbers_in (same_text text other (sym is ∙ e));
+    threads = length-map (piece_numbers text) value_of ∙ as_many text (length k.threads) p.cores none;
+    listed = λ other e. each_number text (length k.threads) p.cores none ∙ ap piece_numbers (same_text text other (sym is ∙ e));
     balanced = λ e. absurd (let h : Some text ≡ None = sym is ∙ e in cc);
   },
 )

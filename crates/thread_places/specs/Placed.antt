@@ -2,7 +2,7 @@
 use Rattle.std.specs.Prelude.{ℕ, ◌≡◌, ◌⊎◌, Option, None, Some, option_and_then, List, map, length}
 use Rattle.forec_kernel.specs.Shapes.{PlainKernel}
 use Rattle.forec_kernel.specs.Weight.{stmt_weight}
-use Rattle.core_alloc.specs.Places.{Places, numbers_in, refusal}
+use Rattle.core_alloc.specs.Places.{Places, piece_numbers, refusal}
 use Rattle.core_alloc.specs.Balance.{IsBalanced}
 use Rattle.core_alloc.specs.declared.fault.PlaceFault.{PlaceFault}
 use Rattle.core_alloc.specs.declared.fault.PlaceFault.TheVariants as fault
@@ -24,5 +24,5 @@ RefusedFor k p e = (e ≡ fault.OutOfMemory) ⊎ (refusal_of (length k.threads) 
 pub record IsPlacement (k : PlainKernel) (p : PlainPlacing) (placement : Places) : Type 0 where
   pub cores : placement.cores ≡ p.cores
   pub threads : length placement.places ≡ length k.threads
-  pub listed : (text : List ℕ) → p.list ≡ Some text → map (λ core. Some core) placement.places ≡ numbers_in text
+  pub listed : (text : List ℕ) → p.list ≡ Some text → map (λ core. Some core) placement.places ≡ piece_numbers text
   pub balanced : p.list ≡ None → IsBalanced (weights_of k) p.cores placement.places

@@ -1,7 +1,7 @@
 //! The lines that list a kernel's threads.
 
 ghost use Rattle.std.specs.Prelude.{◌≡◌, ◌<◌, ◌++◌, ℕ, List, length, decimal, OnOk, IfOk};
-ghost use Rattle.forec_kernel.specs.Shapes.{plain_kernel, named};
+ghost use Rattle.forec_kernel.specs.Shapes.{plain_kernel, plain_name};
 ghost use Rattle.thread_places.specs.Lines.{parent_word, name_word, thread_line, lines_to, bound_line, thread_lines};
 
 use core_alloc::Placement;
@@ -34,7 +34,7 @@ fn add_parent(text: &mut Vec<u8>, parent: Option<u32>) -> Result<(), OutOfMemory
 }
 
 fn add_name(text: &mut Vec<u8>, name: &Option<Vec<u8>>) -> Result<(), OutOfMemory>
-    ensures { OnOk result (text.new.items ≡ text.old.items ++ name_word (named name.now)) }
+    ensures { OnOk result (text.new.items ≡ text.old.items ++ name_word (plain_name name.now)) }
 {
     match name {
         None => add(text, b"{}"),
@@ -53,7 +53,7 @@ struct Row<'k> {
 
 fn add_row(text: &mut Vec<u8>, row: Row<'_>) -> Result<(), OutOfMemory>
     ensures { OnOk result (text.new.items ≡ text.old.items
-        ++ thread_line row.entry.number row.entry.shape.now.parent (named row.entry.shape.now.name) row.entry.core row.entry.weight) }
+        ++ thread_line row.entry.number row.entry.shape.now.parent (plain_name row.entry.shape.now.name) row.entry.core row.entry.weight) }
 {
     add(text, b"thread ")?;
     add_number(text, u64::from(row.number))?;

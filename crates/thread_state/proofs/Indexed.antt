@@ -3,7 +3,7 @@ use Rattle.std.proofs.Common.{◌≡◌, ◌≢◌, ℕ, zero, suc, ◌+◌, ◌
 use Rattle.std.specs.Prelude.{slice_get, slice_set, IsTrue}
 use Rattle.std.proofs.lemmas.Bool.Decides.{nat_tests}
 use Rattle.forec_kernel.specs.Combining.{contains}
-use Rattle.thread_state.specs.Kept.{Kept, place_in, place_of, HavePlaces}
+use Rattle.thread_state.specs.Kept.{PlainOwn, place_in, place_of, HavePlaces}
 
 get_set_same : (xs : List ℕ) (k x : ℕ) → k < length xs → slice_get (slice_set xs k x) k ≡ Some x
 get_set_same [] k x lt = absurd (omega arith)
@@ -62,7 +62,7 @@ place_within (u ∷ uses) v h = by_test (u == v) h (place_within uses v)
 
 -- ---- copies of these variables
 
-pub places_at : (k : Kept) (vs : List ℕ) (i : ℕ) → HavePlaces k vs → i < length vs → (get_or vs i 0 < length k.places) × (place_in k (get_or vs i 0) < length k.copies)
+pub places_at : (k : PlainOwn) (vs : List ℕ) (i : ℕ) → HavePlaces k vs → i < length vs → (get_or vs i 0 < length k.places) × (place_in k (get_or vs i 0) < length k.copies)
 places_at k [] i h lt = absurd (omega arith)
 places_at k (v ∷ vs) zero h lt = (h.0, h.1)
 places_at k (v ∷ vs) (suc i) h lt = places_at k vs i h.2 (omega arith)

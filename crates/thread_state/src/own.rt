@@ -2,7 +2,7 @@
 //! branches of each par.
 
 ghost use Rattle.std.specs.Prelude.{◌≡◌, ◌+◌, ◌<◌, ◌≤◌, length, get_or, true, false, cond, IfOk};
-ghost use Rattle.thread_state.specs.Kept.{Kept, AreIndexed, place_in, no_copy, with_copy, with_copy_at, with_flag, with_live_at, without_branches, begun, with_copies, HavePlaces, handed_by};
+ghost use Rattle.thread_state.specs.Kept.{PlainOwn, AreIndexed, place_in, no_copy, with_copy, with_copy_at, with_flag, with_live_at, without_branches, begun_own, with_copies, HavePlaces, handed_by};
 ghost use Rattle.thread_state.specs.Pars.{used_by};
 
 use crate::pars::Pars;
@@ -27,9 +27,9 @@ pub struct Own {
 
 impl Model for Own {
     ghost use Rattle.std.specs.Prelude.{◌<◌};
-    ghost use Rattle.thread_state.specs.Kept.{Kept, kept_of, lives_in, AreUpTo};
+    ghost use Rattle.thread_state.specs.Kept.{PlainOwn, kept_of, lives_in, AreUpTo};
 
-    ghost Value = { Kept };
+    ghost Value = { PlainOwn };
 
     ghost view = { λ k. kept_of k.copies.items k.places.items k.flags.items (lives_in k.start k.live.items) k.pars };
 
@@ -227,7 +227,7 @@ impl Own {
     /// Takes these copies, sets no flag, and has no branch.
     pub fn restart(&mut self, copies: &[VarCopy])
         requires { length copies.now ≡ length self.old.copies }
-        ensures { self.new ≡ begun copies.now self.old }
+        ensures { self.new ≡ begun_own copies.now self.old }
     {
         self.copies.copy_from_slice(copies);
         self.flags.fill(false);
@@ -250,7 +250,7 @@ impl Own {
         requires branch { branch < length parent.now.pars.uses }
         requires places { HavePlaces parent.now (used_by parent.now.pars branch) }
         requires room { length self.old.copies ≡ length (used_by parent.now.pars branch) }
-        ensures { self.new ≡ begun (handed_by parent.now (used_by parent.now.pars branch)) self.old }
+        ensures { self.new ≡ begun_own (handed_by parent.now (used_by parent.now.pars branch)) self.old }
     {
         self.receive_from(parent, branch);
         self.flags.fill(false);

@@ -4,7 +4,7 @@ use Rattle.std.proofs.lemmas.Bool.Decides.{nat_tests}
 use Rattle.forec_kernel.specs.Terms.{Expr, Num, Local, LocalAt, Var, SharedAt, TableAt, Un, Bin, And, Or, Choose, Call, Exprs, no_exprs, more_exprs, Branch, Stmt, Nop, Set, SetAt, PutAt, Clear, Seq, If, While, Pause, Par, Enter, Return, Stmts, no_stmts, more_stmts}
 use Rattle.forec_kernel.specs.Shapes.{PlainKernel}
 use Rattle.forec_kernel.specs.Combining.{contains, variable_of}
-use Rattle.forec_kernel.specs.WellFormed.{Scope, FineStmt, FineStmts, users, threads_in, pars_of, pars_in, calls_of, calls_in, stmt_calls, stmts_calls}
+use Rattle.forec_kernel.specs.WellFormed.{TermScope, FineStmt, FineStmts, users, threads_in, pars_of, pars_in, calls_of, calls_in, stmt_calls, stmts_calls}
 use Rattle.tick_bounds.specs.Bound.{expr_bound, exprs_bound, args_bound, bodies_bound, calls_bound, join_bound, loop_bound, stmt_bound, stmts_bound}
 
 -- ---- lists of numbers
@@ -78,7 +78,7 @@ module _ (f g : ℕ → ℕ) where
         omega (arith, expr_same x (agree_left (calls_of x) (calls_in rest) h), exprs_same rest (agree_right (calls_of x) (calls_in rest) h))
 
 -- in int functions no par stands
-module _ (k : PlainKernel) (s : Scope) (f g T U : ℕ → ℕ) where
+module _ (k : PlainKernel) (s : TermScope) (f g T U : ℕ → ℕ) where
   abbrev by_f : Stmt → ℕ
   by_f x = stmt_bound k (record { function = f; thread = T }) [] x
 

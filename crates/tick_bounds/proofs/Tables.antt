@@ -14,7 +14,7 @@ use Rattle.forec_kernel.specs.Combining.{contains}
 use Rattle.forec_kernel.specs.WellFormed.{WellFormed, function_body, stmt_calls}
 use Rattle.tick_bounds.specs.Bound.{stmt_bound, function_bound, thread_bound}
 use Rattle.tick_bounds.specs.Capped.{capped, at_table, if_known, known_at, by_tables, as_budget}
-use Rattle.tick_bounds.specs.Known.{has_bound, Tells, IsRight}
+use Rattle.tick_bounds.specs.Known.{has_bound, HoldsBounds, IsRight}
 use Rattle.tick_bounds.proofs.Agreeing.{body_same, threads_same}
 use Rattle.tick_bounds.proofs.CappedBounds.{by_capped, capped_stmt}
 use Rattle.tick_bounds.proofs.Unfolds.{function_past, function_unfolds, thread_past, thread_unfolds, body_above}
@@ -54,7 +54,7 @@ each_in P (x ∷ xs) h c e = pick (x == c) refl e (λ i. each_in P xs (λ j l. h
 
 -- ---- int functions
 
-pub tells_past : (k : PlainKernel) (table : List (Option ℕ)) (g : ℕ) → length table ≡ length k.functions → length table ≤ g → Tells k table g
+pub tells_past : (k : PlainKernel) (table : List (Option ℕ)) (g : ℕ) → length table ≡ length k.functions → length table ≤ g → HoldsBounds k table g
 tells_past k table g e h =
     let left = known_past table g h in
     let right = function_past k (length k.functions) g (omega arith) in
@@ -62,7 +62,7 @@ tells_past k table g e h =
 
 -- the bound of a body, where the table tells those of the functions that it calls
 pub body_told : (k : PlainKernel) → WellFormed k → (table : List (Option ℕ)) (f b : ℕ) → f < length k.functions →
-    ((c : ℕ) → contains c (stmt_calls (function_body k f)) ≡ true → Tells k table c) →
+    ((c : ℕ) → contains c (stmt_calls (function_body k f)) ≡ true → HoldsBounds k table c) →
     b ≡ capped (stmt_bound k (by_tables table []) [] (function_body k f)) → b ≡ capped (function_bound k f)
 body_told k wf table f b l told e =
     e
@@ -75,7 +75,7 @@ module _ (k : PlainKernel) (table : List (Option ℕ)) (f b : ℕ) (l : f < leng
   abbrev after : List (Option ℕ)
   after = set table f (Some b)
 
-  pub put_tells : Tells k after f
+  pub put_tells : HoldsBounds k after f
   put_tells = known_same table f b l ∙ is
 
   -- what is told of another function stays
@@ -86,16 +86,16 @@ module _ (k : PlainKernel) (table : List (Option ℕ)) (f b : ℕ) (l : f < leng
       pick true e = here (grind (arith, nat_tests))
       pick false e = there (λ i. absurd (grind (arith, nat_tests)))
 
-  pub put_keeps : (g : ℕ) → Tells k table g → Tells k after g
+  pub put_keeps : (g : ℕ) → HoldsBounds k table g → HoldsBounds k after g
   put_keeps g h =
-      split_put g (Tells k after g) (λ e. subst (Tells k after) e put_tells) (λ n. ap if_known (entry_other table f g (Some b) n) ∙ h)
+      split_put g (HoldsBounds k after g) (λ e. subst (HoldsBounds k after) e put_tells) (λ n. ap if_known (entry_other table f g (Some b) n) ∙ h)
 
   pub put_right : IsRight k table → IsRight k after
   put_right right =
       record {
         long = length-set table f (Some b) ∙ right.long;
         each = λ g e.
-            split_put g (Tells k after g) (λ i. subst (Tells k after) i put_tells)
+            split_put g (HoldsBounds k after g) (λ i. subst (HoldsBounds k after) i put_tells)
             (λ n. put_keeps g (right.each g (sym (ap (λ x. is_some (unwrap_or x None)) (entry_other table f g (Some b) n)) ∙ e)));
       }
 
@@ -140,7 +140,7 @@ all_past k table n e m h l =
 
 -- the bound of a thread's body, where the tables tell those of all functions and of the threads above it
 pub thread_told : (k : PlainKernel) → WellFormed k → (functions : List (Option ℕ)) (table : List ℕ) (t b : ℕ) → t < length k.threads →
-    ((g : ℕ) → Tells k functions g) → TellsFrom k table (t + 1) →
+    ((g : ℕ) → HoldsBounds k functions g) → TellsFrom k table (t + 1) →
     b ≡ capped (stmt_bound k (by_tables functions table) (uses_of k t) (body_of k t)) → b ≡ capped (thread_bound k t)
 thread_told k wf functions table t b l told above e =
     e

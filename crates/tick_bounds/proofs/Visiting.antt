@@ -12,7 +12,7 @@ use Rattle.forec_kernel.specs.WellFormed.{WellFormed, function_body, stmt_calls}
 use Rattle.forec_kernel.proofs.WeightLemmas.{body_read}
 use Rattle.tick_bounds.specs.Bound.{stmt_bound, function_bound, thread_bound, worst_case}
 use Rattle.tick_bounds.specs.Capped.{capped, by_tables, as_budget}
-use Rattle.tick_bounds.specs.Known.{Tells, IsRight}
+use Rattle.tick_bounds.specs.Known.{HoldsBounds, IsRight}
 use Rattle.tick_bounds.proofs.Ranks.{chain_length, calls_fall}
 use Rattle.tick_bounds.proofs.Searching.{found}
 use Rattle.tick_bounds.proofs.Tables.{TellsFrom, each_in, tells_past, body_told, put_tells, put_keeps, put_right, thread_told, one_more, capped_budget, function_read}
@@ -44,11 +44,11 @@ module _ (k parts : KernelParts) (wf : WellFormed (plain_kernel k)) (f : ℕ) (x
       calls_fall (plain_kernel k) wf f (get_or calls j 0) plain_within
       (subst (λ cs. contains (get_or calls j 0) cs ≡ true) are (found calls j (get_or calls j 0) l refl))
 
-  module _ (table slice : List (Option ℕ)) (b : ℕ) (right : IsRight (plain_kernel k) table) (told : (j : ℕ) → j < length calls → Tells (plain_kernel k) table (get_or calls j 0)) (lends : slice ≡ table) (bound : b ≡ capped (stmt_bound (plain_kernel k) (by_tables slice []) [] (stmt x))) where
+  module _ (table slice : List (Option ℕ)) (b : ℕ) (right : IsRight (plain_kernel k) table) (told : (j : ℕ) → j < length calls → HoldsBounds (plain_kernel k) table (get_or calls j 0)) (lends : slice ≡ table) (bound : b ≡ capped (stmt_bound (plain_kernel k) (by_tables slice []) [] (stmt x))) where
     bound_is : b ≡ capped (function_bound (plain_kernel k) f)
     bound_is =
         body_told (plain_kernel k) wf table f b plain_within
-        (λ c e. each_in (Tells (plain_kernel k) table) calls told c (subst (λ cs. contains c cs ≡ true) (sym are) e))
+        (λ c e. each_in (HoldsBounds (plain_kernel k) table) calls told c (subst (λ cs. contains c cs ≡ true) (sym are) e))
         (bound
         ∙ ap (λ t. capped (stmt_bound (plain_kernel k) (by_tables t []) [] (stmt x))) lends
         ∙ ap (λ s. capped (stmt_bound (plain_kernel k) (by_tables table []) [] s)) body)
@@ -57,7 +57,7 @@ module _ (k parts : KernelParts) (wf : WellFormed (plain_kernel k)) (f : ℕ) (x
     inside = let h = plain_within in let e = right.long in omega arith
 
     -- what the table with the function's bound tells
-    pub visited : IsRight (plain_kernel k) (set table f (Some b)) × Tells (plain_kernel k) (set table f (Some b)) f × ((g : ℕ) → Tells (plain_kernel k) table g → Tells (plain_kernel k) (set table f (Some b)) g)
+    pub visited : IsRight (plain_kernel k) (set table f (Some b)) × HoldsBounds (plain_kernel k) (set table f (Some b)) f × ((g : ℕ) → HoldsBounds (plain_kernel k) table g → HoldsBounds (plain_kernel k) (set table f (Some b)) g)
     visited = (
       put_right (plain_kernel k) table f b inside bound_is right,
       put_tells (plain_kernel k) table f b inside bound_is,
@@ -65,10 +65,10 @@ module _ (k parts : KernelParts) (wf : WellFormed (plain_kernel k)) (f : ℕ) (x
     )
 
 -- once all functions were visited
-pub all_told : (k : PlainKernel) (table : List (Option ℕ)) (n : ℕ) → IsRight k table → length k.functions ≤ n → ((g : ℕ) → g < n → Tells k table g) → (g : ℕ) → Tells k table g
+pub all_told : (k : PlainKernel) (table : List (Option ℕ)) (n : ℕ) → IsRight k table → length k.functions ≤ n → ((g : ℕ) → g < n → HoldsBounds k table g) → (g : ℕ) → HoldsBounds k table g
 all_told k table n right many told g = pick (nat_lt g n) refl
   where
-    pick : (x : Bool) → nat_lt g n ≡ x → Tells k table g
+    pick : (x : Bool) → nat_lt g n ≡ x → HoldsBounds k table g
     pick true e = told g (grind (arith, nat_tests))
     pick false e =
         let past : n ≤ g = grind (arith, nat_tests) in
@@ -87,7 +87,7 @@ pub record BoundFound (k parts : KernelParts) (functions : List (Option ℕ)) (t
   pub used : uses ≡ uses_of (plain_kernel k) t
   pub bound : b ≡ capped (stmt_bound (plain_kernel k) (by_tables functions slice) uses (stmt x))
 
-module _ (k parts : KernelParts) (wf : WellFormed (plain_kernel k)) (functions : List (Option ℕ)) (table slice uses : List ℕ) (bodies : List Statement) (t b : ℕ) (x : Statement) (r : BoundFound k parts functions table slice uses bodies t b x) (told : (g : ℕ) → Tells (plain_kernel k) functions g) (above : TellsFrom (plain_kernel k) table (t + 1)) where
+module _ (k parts : KernelParts) (wf : WellFormed (plain_kernel k)) (functions : List (Option ℕ)) (table slice uses : List ℕ) (bodies : List Statement) (t b : ℕ) (x : Statement) (r : BoundFound k parts functions table slice uses bodies t b x) (told : (g : ℕ) → HoldsBounds (plain_kernel k) functions g) (above : TellsFrom (plain_kernel k) table (t + 1)) where
   own : body_of (plain_kernel k) t ≡ stmt x
   own = body_read k parts t x r.within r.same (r.is ∙ ap (λ l. get_or l t x) r.lent)
 

@@ -8,10 +8,10 @@ abbrev pub has_bound : List (Option ℕ) → ℕ → Bool
 has_bound table g = is_some (unwrap_or (slice_get table g) None)
 
 -- the table tells a function's bound
-abbrev pub Tells : PlainKernel → List (Option ℕ) → ℕ → Type 0
-Tells k table g = known_at table g ≡ capped (function_bound k g)
+abbrev pub HoldsBounds : PlainKernel → List (Option ℕ) → ℕ → Type 0
+HoldsBounds k table g = known_at table g ≡ capped (function_bound k g)
 
 -- the bounds in it are right
 pub record IsRight (k : PlainKernel) (table : List (Option ℕ)) : Type 0 where
   pub long : length table ≡ length k.functions
-  pub each : (g : ℕ) → has_bound table g ≡ true → Tells k table g
+  pub each : (g : ℕ) → has_bound table g ≡ true → HoldsBounds k table g

@@ -2,7 +2,7 @@
 
 ghost use Rattle.std.specs.Prelude.{◌≡◌, ℕ, length, false, IfOk, OnOk};
 ghost use Rattle.forec_kernel.specs.Shapes.{plain_kernel};
-ghost use Rattle.tick_bounds.specs.Known.{has_bound, Tells, IsRight};
+ghost use Rattle.tick_bounds.specs.Known.{has_bound, HoldsBounds, IsRight};
 
 use crate::bodies::statement_bound;
 use crate::scope::Scope;
@@ -29,9 +29,9 @@ fn visit(
 ) -> Result<(), OutOfMemory>
     requires { IsRight (plain_kernel kernel.now) known.old.items }
     ensures right { OnOk result (IsRight (plain_kernel kernel.now) known.new.items) }
-    ensures told { OnOk result (Tells (plain_kernel kernel.now) known.new.items function) }
-    ensures kept { OnOk result ((g : ℕ) → Tells (plain_kernel kernel.now) known.old.items g
-        → Tells (plain_kernel kernel.now) known.new.items g) }
+    ensures told { OnOk result (HoldsBounds (plain_kernel kernel.now) known.new.items function) }
+    ensures kept { OnOk result ((g : ℕ) → HoldsBounds (plain_kernel kernel.now) known.old.items g
+        → HoldsBounds (plain_kernel kernel.now) known.new.items g) }
 {
     if function >= known.len() || is_known(known, function) {
         return Ok(());
@@ -67,7 +67,7 @@ fn unknown(alloc: Global, count: usize) -> Result<Vec<Option<u64>>, OutOfMemory>
 
 /// The bound of each int function.
 pub fn function_bounds(alloc: Global, kernel: &Kernel) -> Result<Vec<Option<u64>>, OutOfMemory>
-    ensures { IfOk result (λ table. (g : ℕ) → Tells (plain_kernel kernel.now) table.items g) }
+    ensures { IfOk result (λ table. (g : ℕ) → HoldsBounds (plain_kernel kernel.now) table.items g) }
 {
     let count = kernel.parts().functions.len();
     let mut known = unknown(alloc, count)?;

@@ -4,7 +4,7 @@ ghost use Rattle.std.specs.Prelude.{◌≡◌, ℕ, replicate, IfOk};
 ghost use Rattle.forec_kernel.specs.Shapes.{plain_kernel};
 ghost use Rattle.tick_bounds.specs.Bound as plain;
 ghost use Rattle.tick_bounds.specs.Capped.{capped, at_table};
-ghost use Rattle.tick_bounds.specs.Known.{Tells};
+ghost use Rattle.tick_bounds.specs.Known.{HoldsBounds};
 
 use crate::bodies::statement_bound;
 use crate::scope::{Scope, uses_of};
@@ -24,7 +24,7 @@ pub fn thread_bounds(
     kernel: &Kernel,
     functions: &[Option<u64>],
 ) -> Result<Vec<u64>, OutOfMemory>
-    requires { (g : ℕ) → Tells (plain_kernel kernel.now) functions.now g }
+    requires { (g : ℕ) → HoldsBounds (plain_kernel kernel.now) functions.now g }
     ensures { IfOk result (λ table. (t : ℕ) → at_table table.items t ≡ capped (plain.thread_bound (plain_kernel kernel.now) t)) }
 {
     let bodies = kernel.parts().threads.as_slice();

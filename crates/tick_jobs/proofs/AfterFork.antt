@@ -10,18 +10,18 @@ use Rattle.forec_kernel.proofs.ReachedLemmas.{Went, alone_of, alone_snoc}
 use Rattle.thread_code.specs.Plain.{PlainCode}
 use Rattle.thread_code.specs.Valid.{IsValidCode, costs, of_shape}
 use Rattle.thread_code.specs.Machine.{Machine, On, Waits, Merges, Failing, Paused, Ended, Trapped, Exceeded, Stuck}
-use Rattle.thread_code.specs.Alone.{block_of, view_of, units_of, code_engine, CodeAlone}
+use Rattle.thread_code.specs.Alone.{block_of, view_of, machine_units, code_engine, CodeAlone}
 use Rattle.thread_code.proofs.Steady.{code_steady}
 use Rattle.thread_code.proofs.Unstuck.{Good, reached_good}
 use Rattle.core_machine.specs.declared.thread.Thread.{Thread}
 use Rattle.core_machine.specs.declared.thread.Phase.TheVariants as phase
-use Rattle.core_machine.specs.Held.{branch_of, machine_in, machine_of, Waits_at, Placed}
+use Rattle.core_machine.specs.Held.{branch_of, machine_in, machine_of, WaitsAtFork, HoldsInPhase}
 use Rattle.core_machine.specs.Threads.{Loaded, StandsFor, HasSettled}
 use Rattle.core_machine.specs.Forks.{seeds_in, jobs_at, next_replies, with_replies}
 use Rattle.core_machine.proofs.Asking.{went_fork}
 use Rattle.tick_jobs.specs.Branches.{replies_to}
 use Rattle.tick_jobs.specs.Writing.{Log, heard, told, Wrote}
-use Rattle.tick_jobs.specs.Told.{Book, AreAnswered, AtJob, IsAsleep, MayTell, IsJobFor}
+use Rattle.tick_jobs.specs.Told.{Book, AreAnswered, AtJob, IsAsleep, MayTell, MayTellJob}
 use Rattle.tick_jobs.proofs.Branching.{branch_above}
 use Rattle.tick_jobs.proofs.AtEachFork.{EndsPaused, WakesPaused, AllAbove, Rising, AllAre, IsMine, Fine}
 use Rattle.tick_jobs.proofs.FollowingLemmas.{Working, follows, wrote_of, wrote_once, wrote_count, went_join, forks_then}
@@ -88,23 +88,23 @@ module _ (c : PlainCode) (valid : IsValidCode c) (t : ℕ) (pairs : List Answere
       by_root None n e = cc
       by_root (Some x) n e = absurd cc
 
-  a_job : (b : ℕ) (job : Job) → IsMine c t b → MayTell c book b job → IsJobFor c book t (record { branch = b; job = job })
+  a_job : (b : ℕ) (job : Job) → IsMine c t b → MayTell c book b job → MayTellJob c book t (record { branch = b; job = job })
   a_job zero job mine may = absurd (root_alone mine.0)
   a_job (suc k) job mine may =
       let inside : suc k < length c.threads = omega (arith, mine.1, valid.threads) in
       record { place = k; branch = refl; mine = mine.0; inside = inside; above = branch_above c valid t k inside mine.0; may = may }
 
-  each_job : (seeds : List Seed) (i : ℕ) (w : Written) → AllAre (IsMine c t) (map branch_of seeds) → WakesPaused pairs seeds → slice_get (map (written a) seeds) i ≡ Some w → IsJobFor c book t w
+  each_job : (seeds : List Seed) (i : ℕ) (w : Written) → AllAre (IsMine c t) (map branch_of seeds) → WakesPaused pairs seeds → slice_get (map (written a) seeds) i ≡ Some w → MayTellJob c book t w
   each_job [] i w mine paused e = none_there i e
     where
       none_there : {A : Type 0} (i : ℕ) → slice_get [] i ≡ Some w → A
       none_there zero e = cc
       none_there (suc i) e = cc
-  each_job (Starts b args values ∷ seeds) zero w mine paused e = subst (IsJobFor c book t) (some_one _ w e) (a_job b (Start args values a) mine.0 tt)
+  each_job (Starts b args values ∷ seeds) zero w mine paused e = subst (MayTellJob c book t) (some_one _ w e) (a_job b (Start args values a) mine.0 tt)
     where
       some_one : (x y : Written) → Some x ≡ Some y → x ≡ y
       some_one x y e = cc
-  each_job (Wakes b values ∷ seeds) zero w mine paused e = subst (IsJobFor c book t) (some_one _ w e) (a_job b (Wake values a) mine.0 (asleep c t b pairs answered paused.0))
+  each_job (Wakes b values ∷ seeds) zero w mine paused e = subst (MayTellJob c book t) (some_one _ w e) (a_job b (Wake values a) mine.0 (asleep c t b pairs answered paused.0))
     where
       some_one : (x y : Written) → Some x ≡ Some y → x ≡ y
       some_one x y e = cc
@@ -159,7 +159,7 @@ module _ (c : PlainCode) (valid : IsValidCode c) (t : ℕ) (lt : t < length c.th
     pub mine : AllAre (IsMine c t) (map branch_of seeds)
     pub some : map branch_of seeds ≢ []
     pub wakes : WakesPaused pairs seeds
-    pub bound : n + 1 ≤ (length (block_of c t).steps + 2) * units_of m + (length (block_of c t).steps + 1)
+    pub bound : n + 1 ≤ (length (block_of c t).steps + 2) * machine_units m + (length (block_of c t).steps + 1)
 
   place_most : (at : ℕ) → at < length (block_of c t).steps → cond (costs (slice_get (block_of c t).steps at)) (length (block_of c t).steps + 1) at ≤ length (block_of c t).steps + 1
   place_most at less = by_test (costs (slice_get (block_of c t).steps at))
@@ -229,8 +229,8 @@ module _ (c : PlainCode) (valid : IsValidCode c) (h : Thread) (loaded : Loaded c
   at : inside.machine ≡ machine_of c h
   at = fork_machine c h inside.machine inside.stands settled
 
-  waits : Waits_at c loaded.needs h settled.before
-  waits = subst (Placed c loaded.needs h) settled.phase loaded.placed
+  waits : WaitsAtFork c loaded.needs h settled.before
+  waits = subst (HoldsInPhase c loaded.needs h) settled.phase loaded.placed
 
   here : machine_of c h ≡ machine_in c h (phase.Forked settled.before)
   here = ap (machine_in c h) settled.phase
@@ -238,8 +238,8 @@ module _ (c : PlainCode) (valid : IsValidCode c) (h : Thread) (loaded : Loaded c
   view : view_of inside.machine ≡ IsAtFork waits.seeds
   view = ap view_of (at ∙ here) ∙ waits.view
 
-  units : units_of inside.machine ≡ h.units
-  units = ap units_of (at ∙ here) ∙ waits.units
+  units : machine_units inside.machine ≡ h.units
+  units = ap machine_units (at ∙ here) ∙ waits.units
 
   ws_are : jobs_at c h ≡ map (written (h.allowance - h.units)) waits.seeds
   ws_are = ap (λ v. map (written (h.allowance - h.units)) (seeds_in v)) (ap view_of here ∙ waits.view)
@@ -277,7 +277,7 @@ module _ (c : PlainCode) (valid : IsValidCode c) (h : Thread) (loaded : Loaded c
   pub its_order : (i j : ℕ) (v w : Written) → i < j → slice_get (jobs_at c h) i ≡ Some v → slice_get (jobs_at c h) j ≡ Some w → v.branch < w.branch
   its_order i j v w less vi wj = in_order (jobs_at c h) i j v w (subst Rising (sym branches) facts.rising) less vi wj
 
-  pub its_jobs : AreAnswered c t (told c t jobs job l) → (i : ℕ) (w : Written) → slice_get (jobs_at c h) i ≡ Some w → IsJobFor c (λ b. jobs_to b (told c t jobs job l)) t w
+  pub its_jobs : AreAnswered c t (told c t jobs job l) → (i : ℕ) (w : Written) → slice_get (jobs_at c h) i ≡ Some w → MayTellJob c (λ b. jobs_to b (told c t jobs job l)) t w
   its_jobs answered i w wi = each_job c valid t (told c t jobs job l) answered (h.allowance - h.units) waits.seeds i w facts.mine facts.wakes (ap (λ z. slice_get z i) (sym ws_are) ∙ wi)
 
   -- each job is for a branch of the thread
@@ -294,8 +294,8 @@ module _ (c : PlainCode) (valid : IsValidCode c) (h : Thread) (loaded : Loaded c
   pub runs_here : CodeAlone c t (l.exchanges ++ record { job = job; replies = l.before } ∷ []) (l.outputs ++ record { jobs = l.forks ++ jobs_at c h ∷ []; reply = None } ∷ [])
   runs_here =
       let within = settled.within in
-      let ws = map (written (allowance_of job - units_of inside.machine)) waits.seeds in
-      let same : ws ≡ jobs_at c h = ap (λ n. map (written (n - units_of inside.machine)) waits.seeds) (sym inside.allowance) ∙ ap (λ n. map (written (h.allowance - n)) waits.seeds) units ∙ sym ws_are in
+      let ws = map (written (allowance_of job - machine_units inside.machine)) waits.seeds in
+      let same : ws ≡ jobs_at c h = ap (λ n. map (written (n - machine_units inside.machine)) waits.seeds) (sym inside.allowance) ∙ ap (λ n. map (written (h.allowance - n)) waits.seeds) units ∙ sym ws_are in
       let forks : working.forks ++ ws ∷ [] ≡ l.forks ++ jobs_at c h ∷ [] = ap (λ fs. fs ++ ws ∷ []) same_forks ∙ ap (λ x. l.forks ++ x ∷ []) same in
       let serves = went_fork Machine e (allowance_of job) l.before l.begin working.forks inside.machine waits.seeds went (omega (arith, units, within, inside.allowance)) view in
       let out : Output = record { jobs = working.forks ++ ws ∷ []; reply = None } in
@@ -306,10 +306,10 @@ module _ (c : PlainCode) (valid : IsValidCode c) (h : Thread) (loaded : Loaded c
   pub some_branches : 0 < length h.branches.numbers
   some_branches = let n = some_of (map branch_of waits.seeds) facts.some in let m = ap length (numbers ∙ branches) in omega (arith, n, m)
 
-  pub forks_bound : length l.before + 1 ≤ (length (block_of c t).steps + 2) * units_of inside.machine + (length (block_of c t).steps + 1)
+  pub forks_bound : length l.before + 1 ≤ (length (block_of c t).steps + 2) * machine_units inside.machine + (length (block_of c t).steps + 1)
   forks_bound = facts.bound
 
-  pub units_within : units_of inside.machine ≤ h.allowance
+  pub units_within : machine_units inside.machine ≤ h.allowance
   units_within = let w = settled.within in omega (arith, units, w)
 
   -- the replies of its branches
@@ -322,14 +322,14 @@ module _ (c : PlainCode) (valid : IsValidCode c) (h : Thread) (loaded : Loaded c
         length_map f [] = refl
         length_map f (x ∷ xs) = ap suc (length_map f xs)
 
-    same_ws : map (written (allowance_of job - units_of inside.machine)) waits.seeds ≡ jobs_at c h
-    same_ws = ap (λ n. map (written (n - units_of inside.machine)) waits.seeds) (sym inside.allowance) ∙ ap (λ n. map (written (h.allowance - n)) waits.seeds) units ∙ sym ws_are
+    same_ws : map (written (allowance_of job - machine_units inside.machine)) waits.seeds ≡ jobs_at c h
+    same_ws = ap (λ n. map (written (n - machine_units inside.machine)) waits.seeds) (sym inside.allowance) ∙ ap (λ n. map (written (h.allowance - n)) waits.seeds) units ∙ sym ws_are
 
     wrote_now : Wrote e (allowance_of job) l.begin (l.before ++ rs ∷ []) (l.forks ++ jobs_at c h ∷ [])
     wrote_now =
         let joined = went_join Machine e (allowance_of job) l.before rs waits.seeds l.begin working.forks inside.machine went view (let w = units_within in omega (arith, w, inside.allowance)) seeds_count in
-        let w = wrote_of Machine e (allowance_of job) (l.before ++ rs ∷ []) l.begin (working.forks ++ map (written (allowance_of job - units_of inside.machine)) waits.seeds ∷ []) (e.join rs inside.machine) joined in
-        subst (Wrote e (allowance_of job) l.begin (l.before ++ rs ∷ [])) (ap (λ fs. fs ++ map (written (allowance_of job - units_of inside.machine)) waits.seeds ∷ []) same_forks ∙ ap (λ ws. l.forks ++ ws ∷ []) same_ws) w
+        let w = wrote_of Machine e (allowance_of job) (l.before ++ rs ∷ []) l.begin (working.forks ++ map (written (allowance_of job - machine_units inside.machine)) waits.seeds ∷ []) (e.join rs inside.machine) joined in
+        subst (Wrote e (allowance_of job) l.begin (l.before ++ rs ∷ [])) (ap (λ fs. fs ++ map (written (allowance_of job - machine_units inside.machine)) waits.seeds ∷ []) same_forks ∙ ap (λ ws. l.forks ++ ws ∷ []) same_ws) w
 
     abbrev log_now : Log c t jobs job
     log_now = record {

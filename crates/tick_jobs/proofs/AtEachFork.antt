@@ -18,8 +18,8 @@ use Rattle.forec_kernel.specs.Engine.{Reply, WasPaused, WasEnded, WasTrapped, Wa
 use Rattle.thread_code.specs.declared.instruction.Instruction.{Instruction}
 use Rattle.thread_code.specs.declared.instruction.Instruction.TheVariants as instruction
 use Rattle.thread_code.specs.Plain.{PlainBlock, PlainCode}
-use Rattle.thread_code.specs.Valid.{Leads, IsFine, IsParOf, IsValidCode, costs, of_shape, branches_in, arguments_of, function_arguments}
-use Rattle.thread_code.specs.Machine.{Point, BranchCopy, Merge, Frame, Caller, Folding, Own, Awaited, Machine, On, Waits, Merges, Failing, Paused, Ended, Trapped, Exceeded, Stuck, onward, with_top, with_arguments, unless_none, turn_taken, put_at, put_value, entered, uses_of, total_of, folded, offered, merge_step, returned, living, starts, wakes, awaited, waking, act, step, is_ended, live_after, back_to, replied, join}
+use Rattle.thread_code.specs.Valid.{HasDepth, IsFine, IsParOf, IsValidCode, costs, of_shape, branches_in, arguments_of, function_arguments}
+use Rattle.thread_code.specs.Machine.{Point, BranchCopy, Merge, Frame, Caller, Folding, Own, Awaited, Machine, On, Waits, Merges, Failing, Paused, Ended, Trapped, Exceeded, Stuck, onward, with_top, with_arguments, unless_none, turn_taken, put_at, put_value, entered, code_uses, total_of, folded, offered, merge_step, returned, living, starts, wakes, awaited, waking, act, step, is_ended, live_after, back_to, replied, join}
 use Rattle.thread_code.specs.Alone.{block_of, view_of}
 use Rattle.thread_code.proofs.Unstuck.{IsHere, Good, owner, fetched, fine_at}
 use Rattle.core_machine.specs.Held.{branch_of}
@@ -333,7 +333,7 @@ module _ (c : PlainCode) (valid : IsValidCode c) (t : ℕ) where
     offer_fine : (s : BranchCopy) (m : Merge) (o : Own) (u : ℕ) → F (Merges m o u) → F (offered c t s m o u)
     offer_fine s m o u h =
         let v = variable_of (of_shape c.shape) s.variable in
-        by_test (takes_part v.policy (copy_of (uses_of c t) o.copies s.variable).value s.copy) v.combine (total_of (uses_of c t) m.totals s.variable).value
+        by_test (takes_part v.policy (copy_of (code_uses c t) o.copies s.variable).value s.copy) v.combine (total_of (code_uses c t) m.totals s.variable).value
       where
         by_test : (b : Bool) (combine : Option ℕ) (total : Option ℤ) → F (elim b [ true ↦ folded c t s m o u combine total | false ↦ Merges m o u ])
         by_test true combine total = fold_fine s m o u combine total h
@@ -351,7 +351,7 @@ module _ (c : PlainCode) (valid : IsValidCode c) (t : ℕ) where
     -- ---- one instruction of the thread's own block
 
     module _ (p : Point) (o : Own) (u : ℕ) (h : IsHere c (Some t) p) (steps : p.steps ≡ own) (few : Few n u p.at) (lively : Lively past o.live) where
-      in_block : (q d : ℕ) → Leads h.depths q d → q < length own
+      in_block : (q d : ℕ) → HasDepth h.depths q d → q < length own
       in_block q d l =
           let lt = slice_get_within h.depths q d l in
           let e = ap length h.same in
@@ -374,13 +374,13 @@ module _ (c : PlainCode) (valid : IsValidCode c) (t : ℕ) where
       goes : (at : ℕ) → place p.at ≤ place at → At at u
       goes at le = ((steps, omega (arith, few, le)), lively)
 
-      free : (i : Instruction) → slice_get p.steps p.at ≡ Some i → costs (Some i) ≡ false → (at d : ℕ) → p.at ≤ at → Leads h.depths at d → At at u
+      free : (i : Instruction) → slice_get p.steps p.at ≡ Some i → costs (Some i) ≡ false → (at d : ℕ) → p.at ≤ at → HasDepth h.depths at d → At at u
       free i is nothing at d le leads =
           let e = free_at i is nothing in
           let least = place_least at (in_block at d leads) in
           goes at (omega (arith, e, least, le))
 
-      counted : (i : Instruction) → slice_get p.steps p.at ≡ Some i → (k : ℕ) → costs (Some i) ≡ nat_lt 0 k → (at d : ℕ) → p.at ≤ at → Leads h.depths at d → At at (u + k)
+      counted : (i : Instruction) → slice_get p.steps p.at ≡ Some i → (k : ℕ) → costs (Some i) ≡ nat_lt 0 k → (at d : ℕ) → p.at ≤ at → HasDepth h.depths at d → At at (u + k)
       counted i is zero nothing at d le leads =
           let e : u ≡ u + 0 = omega arith in subst (At at) e (free i is nothing at d le leads)
       counted i is (suc k) nothing at d le leads = paid at (u + suc k) (omega arith)
@@ -395,7 +395,7 @@ module _ (c : PlainCode) (valid : IsValidCode c) (t : ℕ) where
           both (b ∷ bs) x y = ((x.0, y.0), both bs x.1 y.1)
 
       wake_fine : (i : Instruction) → slice_get p.steps p.at ≡ Some i → costs (Some i) ≡ false → (bs : List ℕ) (to d d' : ℕ) → Rising bs → AllAre (IsMine c t) bs → AllAre (λ b. get_or o.live b false ≡ true) bs →
-          Leads h.depths (p.at + 1) d → Leads h.depths to d' → p.at < to → F (waking c t bs to p [] o u)
+          HasDepth h.depths (p.at + 1) d → HasDepth h.depths to d' → p.at < to → F (waking c t bs to p [] o u)
       wake_fine i is nothing [] to d d' up mine alive next there lt = free i is nothing (p.at + 1) d (omega arith) next
       wake_fine i is nothing (b ∷ bs) to d d' up mine alive next there lt =
           let e = free_at i is nothing in
@@ -412,11 +412,11 @@ module _ (c : PlainCode) (valid : IsValidCode c) (t : ℕ) where
           some_of : (b : ℕ) (bs : List ℕ) → b ∷ bs ≡ [] → ⊥
           some_of b bs q = cc
 
-      tested_to : (b : Bool) (i : Instruction) → slice_get p.steps p.at ≡ Some i → costs (Some i) ≡ false → (to d d' : ℕ) → Leads h.depths (p.at + 1) d → Leads h.depths to d' → p.at < to → At (cond b to (p.at + 1)) u
+      tested_to : (b : Bool) (i : Instruction) → slice_get p.steps p.at ≡ Some i → costs (Some i) ≡ false → (to d d' : ℕ) → HasDepth h.depths (p.at + 1) d → HasDepth h.depths to d' → p.at < to → At (cond b to (p.at + 1)) u
       tested_to true i is nothing to d d' next there lt = free i is nothing to d' (omega (arith, lt)) there
       tested_to false i is nothing to d d' next there lt = free i is nothing (p.at + 1) d (omega arith) next
 
-      jumps : (to d : ℕ) → slice_get p.steps p.at ≡ Some (instruction.Jump to) → Leads h.depths to d → (to ≤ p.at → costs (slice_get h.block.steps to) ≡ true) → At to u
+      jumps : (to d : ℕ) → slice_get p.steps p.at ≡ Some (instruction.Jump to) → HasDepth h.depths to d → (to ≤ p.at → costs (slice_get h.block.steps to) ≡ true) → At to u
       jumps to d is leads back =
           ⊎_elim
           (λ lt. free (instruction.Jump to) is refl to d (omega (arith, lt)) leads)
@@ -442,10 +442,10 @@ module _ (c : PlainCode) (valid : IsValidCode c) (t : ℕ) where
       own_act (instruction.Put v) is f = top_fine p.stack u _ (λ y rest. paid (p.at + 1) (u + 1) (omega arith))
       own_act (instruction.GetAt v k place) is f =
           top_fine p.stack u _ (λ i rest. unless_fine (index_in k i) place Index (u + 1)
-          (λ z. On (onward p ((copy_of (uses_of c t) o.copies (v + z)).value ∷ rest)) [] o (u + 1)) (λ z. paid (p.at + 1) (u + 1) (omega arith)))
+          (λ z. On (onward p ((copy_of (code_uses c t) o.copies (v + z)).value ∷ rest)) [] o (u + 1)) (λ z. paid (p.at + 1) (u + 1) (omega arith)))
       own_act (instruction.PutAt v k place) is f =
           top_fine p.stack u _ (λ x below. top_fine below u _ (λ i rest. unless_fine (index_in k i) place Index (u + 1)
-          (λ z. On (onward p rest) [] (put_value (uses_of c t) (v + z) x o) (u + 1)) (λ z. paid (p.at + 1) (u + 1) (omega arith))))
+          (λ z. On (onward p rest) [] (put_value (code_uses c t) (v + z) x o) (u + 1)) (λ z. paid (p.at + 1) (u + 1) (omega arith))))
       own_act (instruction.Unary op) is f = top_fine p.stack u _ (λ y rest. paid (p.at + 1) (u + 1) (omega arith))
       own_act (instruction.Binary op place) is f =
           top_fine p.stack u _ (λ y below. top_fine below u _ (λ x rest. unless_fine (binary_of op x y) (place_or place) Divide (u + 1) (λ z. On (onward p (z ∷ rest)) [] o (u + 1))
@@ -517,10 +517,10 @@ module _ (c : PlainCode) (valid : IsValidCode c) (t : ℕ) where
       inner_act (instruction.Put v) b ds f = top_fine p.stack u _ (λ y rest. inside _ (u + 1) (omega arith))
       inner_act (instruction.GetAt v k place) b ds f =
           top_fine p.stack u _ (λ i rest. unless_fine (index_in k i) place Index (u + 1)
-          (λ z. On (onward p ((copy_of (uses_of c t) o.copies (v + z)).value ∷ rest)) (frame ∷ fs) o (u + 1)) (λ z. inside _ (u + 1) (omega arith)))
+          (λ z. On (onward p ((copy_of (code_uses c t) o.copies (v + z)).value ∷ rest)) (frame ∷ fs) o (u + 1)) (λ z. inside _ (u + 1) (omega arith)))
       inner_act (instruction.PutAt v k place) b ds f =
           top_fine p.stack u _ (λ x below. top_fine below u _ (λ i rest. unless_fine (index_in k i) place Index (u + 1)
-          (λ z. On (onward p rest) (frame ∷ fs) (put_value (uses_of c t) (v + z) x o) (u + 1)) (λ z. inside _ (u + 1) (omega arith))))
+          (λ z. On (onward p rest) (frame ∷ fs) (put_value (code_uses c t) (v + z) x o) (u + 1)) (λ z. inside _ (u + 1) (omega arith))))
       inner_act (instruction.Unary op) b ds f = top_fine p.stack u _ (λ y rest. inside _ (u + 1) (omega arith))
       inner_act (instruction.Binary op place) b ds f =
           top_fine p.stack u _ (λ y below. top_fine below u _ (λ x rest. unless_fine (binary_of op x y) (place_or place) Divide (u + 1) (λ z. On (onward p (z ∷ rest)) (frame ∷ fs) o (u + 1))

@@ -8,7 +8,7 @@ use Rattle.forec_kernel.proofs.ReachedLemmas.{Went, alone_snoc, went_answer, wen
 use Rattle.thread_code.specs.Plain.{PlainCode}
 use Rattle.thread_code.specs.Valid.{IsValidCode}
 use Rattle.thread_code.specs.Machine.{Machine, On, Waits, Merges, Failing, Paused, Ended, Trapped, Exceeded, Stuck}
-use Rattle.thread_code.specs.Alone.{block_of, view_of, units_of, code_engine}
+use Rattle.thread_code.specs.Alone.{block_of, view_of, machine_units, code_engine}
 use Rattle.thread_code.proofs.Unstuck.{reached_good}
 use Rattle.tick_jobs.specs.Writing.{Wrote}
 use Rattle.tick_jobs.proofs.AtEachFork.{Lively, Fine, step_fine, join_fine}
@@ -189,7 +189,7 @@ module _ (c : PlainCode) (valid : IsValidCode c) (t : ℕ) (lt : t < length c.th
   follows xs p (joined ys job before rs seeds s h v le count) =
       let w = follows ys (Inside job before s) h in
       let n = allowance_of job in
-      let ws = map (written (n - units_of s)) seeds in
+      let ws = map (written (n - machine_units s)) seeds in
       let pairs =
       append_assoc (pair_all ys w.outputs) (pair_forks w.forks before) (pair_up ws rs)
       ∙ ap (λ l. pair_all ys w.outputs ++ l) (sym (forks_then w.forks before ws rs (wrote_count Machine e n before w.begin w.forks (wrote_of Machine e n before w.begin w.forks s w.went)))) in
@@ -204,7 +204,7 @@ module _ (c : PlainCode) (valid : IsValidCode c) (t : ℕ) (lt : t < length c.th
         complete = w.complete;
         fine = subst (λ k. Fine c valid t k (pair_all ys w.outputs ++ pair_forks (w.forks ++ ws ∷ []) (before ++ rs ∷ [])) (e.join rs s)) (length_then before rs)
             (subst (λ l. Fine c valid t (length before + 1) l (e.join rs s)) pairs
-            (join_fine c valid t (length before) (pair_all ys w.outputs ++ pair_forks w.forks before) (n - units_of s) rs s seeds v count w.fine));
+            (join_fine c valid t (length before) (pair_all ys w.outputs ++ pair_forks w.forks before) (n - machine_units s) rs s seeds v count w.fine));
       }
   follows xs p (answered ys job before s o r h le a) =
       let w = follows ys (Inside job before s) h in

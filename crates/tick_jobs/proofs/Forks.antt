@@ -3,7 +3,7 @@ use Rattle.std.proofs.Common.{◌≡◌, ℕ, zero, suc, ◌+◌, ◌*◌, ◌<�
 use Rattle.core_machine.specs.declared.thread.Thread.{Thread}
 use Rattle.core_machine.specs.declared.thread.Event.{Event}
 use Rattle.core_machine.specs.declared.thread.Event.TheVariants as event
-use Rattle.core_machine.specs.Threads.{HasReply, Left_by}
+use Rattle.core_machine.specs.Threads.{HasReply, LeftByEvent}
 
 pub times_grow : (m u v : ℕ) → u ≤ v → m * u ≤ m * v
 times_grow zero u v le = omega arith
@@ -21,7 +21,7 @@ fits_forks n l a h small low =
     let two = times_grow_left (l + 2) (2 ^ 32 + 2) (2 ^ 62) (omega (arith, small)) in
     omega (arith, h, one, two, small)
 
-pub replied_by : (h : Thread) (e : Event) → Left_by h e → (e ≡ event.Fork → ⊥) → HasReply h
+pub replied_by : (h : Thread) (e : Event) → LeftByEvent h e → (e ≡ event.Fork → ⊥) → HasReply h
 replied_by h event.Fork left n = absurd (n refl)
 replied_by h event.Paused left n = left.0
 replied_by h event.Ended left n = left

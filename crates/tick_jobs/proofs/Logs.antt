@@ -16,7 +16,7 @@ use Rattle.thread_code.proofs.Steady.{code_steady}
 use Rattle.core_machine.specs.declared.thread.Thread.{Thread}
 use Rattle.core_machine.specs.declared.thread.Phase.TheVariants as phase
 use Rattle.core_machine.specs.Held.{machine_of, machine_in}
-use Rattle.core_machine.specs.Threads.{StandsFor, never, since, settling, joining, Gives, HasSettled, Stands_in, Stands_at}
+use Rattle.core_machine.specs.Threads.{StandsFor, never, since, settling, joining, RepliesToLast, HasSettled, StandsInPhase, StandsAtMachine}
 use Rattle.tick_jobs.specs.Writing.{Wrote, heard, told}
 use Rattle.tick_jobs.specs.Branches.{AreAbove}
 use Rattle.tick_jobs.specs.Told.{AreAnswered, DidJobs, AtJob}
@@ -57,10 +57,10 @@ module _ (c : PlainCode) (h : Thread) (xs : List Exchange) (job : Job) (before :
     pub machine : Machine
     pub allowance : h.allowance ≡ allowance_of job
     pub reached : Reached (code_engine c h.number) xs (Inside job before machine)
-    pub stands : Stands_at c h machine
+    pub stands : StandsAtMachine c h machine
 
   named : (ys : List Exchange) (j : Job) (b : List (List Reply)) (m : Machine) → ys ++ record { job = j; replies = b } ∷ [] ≡ xs ++ last ∷ [] → h.allowance ≡ allowance_of j →
-      Reached (code_engine c h.number) ys (Inside j b m) → Stands_at c h m → IsInside
+      Reached (code_engine c h.number) ys (Inside j b m) → StandsAtMachine c h m → IsInside
   named ys j b m e a r st =
       let parts = front_once ys xs (record { job = j; replies = b }) last e in
       let jobs = ap (λ (x : Exchange). x.job) parts.1 in
@@ -103,9 +103,9 @@ module _ (c : PlainCode) (h : Thread) (xs : List Exchange) (job : Job) (before :
   allowance_in l (joining ys j b rs m a r p q st) e = a ∙ ap (λ (x : Exchange). allowance_of x.job) (front_once ys xs _ last e).1
 
 -- where its machine is at a fork
-pub fork_machine : (c : PlainCode) (h : Thread) (m : Machine) → Stands_at c h m → HasSettled h 0 → m ≡ machine_of c h
+pub fork_machine : (c : PlainCode) (h : Thread) (m : Machine) → StandsAtMachine c h m → HasSettled h 0 → m ≡ machine_of c h
 fork_machine c h m st settled =
-    let at = subst (λ p. Stands_in c h p m) settled.phase st in at.0 ∙ ap (λ p. machine_in c h p) (sym settled.phase)
+    let at = subst (λ p. StandsInPhase c h p m) settled.phase st in at.0 ∙ ap (λ p. machine_in c h p) (sym settled.phase)
 
 -- ---- what is determined
 
@@ -245,7 +245,7 @@ pub record Does (c : PlainCode) (h : Thread) (Posted : ℕ → List Answered →
   pub last : last_reply done.outputs ≡ Some reply
 
 pub job_does : (c : PlainCode) (h : Thread) (Posted : ℕ → List Answered → Type 0) (jobs : List Job) (job : Job) (p : PlainPacket) →
-    AtJob c h Posted jobs job → ((xs : List Exchange) → StandsFor c h xs → Gives c h.number xs p) → Does c h Posted (jobs ++ job ∷ []) p
+    AtJob c h Posted jobs job → ((xs : List Exchange) → StandsFor c h xs → RepliesToLast c h.number xs p) → Does c h Posted (jobs ++ job ∷ []) p
 job_does c h Posted jobs job p i gives =
     let l = i.log in
     let x : Exchange = record { job = job; replies = l.before } in
@@ -286,7 +286,7 @@ pub record Ends (c : PlainCode) (h : Thread) (Posted : ℕ → List Answered →
 
 -- where its branches' replies answer what they were told, so does its own
 pub job_ends : (c : PlainCode) (h : Thread) (Posted : ℕ → List Answered → Type 0) → ((t : ℕ) (pairs : List Answered) → Posted t pairs → AreAnswered c t pairs) → (jobs : List Job) (job : Job) (p : PlainPacket) →
-    h.number < length c.threads → AtJob c h Posted jobs job → ((xs : List Exchange) → StandsFor c h xs → Gives c h.number xs p) → Ends c h Posted (jobs ++ job ∷ []) p
+    h.number < length c.threads → AtJob c h Posted jobs job → ((xs : List Exchange) → StandsFor c h xs → RepliesToLast c h.number xs p) → Ends c h Posted (jobs ++ job ∷ []) p
 job_ends c h Posted answered jobs job p lt i gives =
     let d = job_does c h Posted jobs job p i gives in
     let all = answered h.number _ d.done.posts in

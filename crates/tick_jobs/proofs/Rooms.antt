@@ -15,7 +15,7 @@ use Rattle.combine_tree.specs.declared.packet.PacketKind.{PacketKind}
 use Rattle.combine_tree.specs.declared.packet.PacketKind.TheVariants as kind
 use Rattle.combine_tree.specs.Plain.{plain_kind}
 use Rattle.thread_code.specs.Valid.{FineShape, of_shape}
-use Rattle.tick_jobs.specs.Jobs.{IsBetween, copies_before, copies_at, job_with, job_of, kind_of}
+use Rattle.tick_jobs.specs.Jobs.{IsBetweenTicks, copies_before, copies_at, job_with, job_of, next_job_kind}
 use Rattle.tick_jobs.proofs.Copies.{length_count, length_start, length_unmarked, length_row}
 
 -- ---- room
@@ -83,7 +83,7 @@ length_at s fine p row h =
 
 -- ---- the job
 
-job_is : (k : PacketKind) → IsBetween k → (p : PlainPacket) (cs : List VarCopy) (budget : ℕ) → p.kind ≡ plain_kind (kind_of k) → p.args ≡ [] → p.copies ≡ cs → unmarked cs ≡ cs → p.allowance ≡ budget →
+job_is : (k : PacketKind) → IsBetweenTicks k → (p : PlainPacket) (cs : List VarCopy) (budget : ℕ) → p.kind ≡ plain_kind (next_job_kind k) → p.args ≡ [] → p.copies ≡ cs → unmarked cs ≡ cs → p.allowance ≡ budget →
     IsJob p (job_with k (values_in cs) budget)
 job_is kind.Blank b p cs budget is args copies plain allowance = (is, args, copies ∙ sym plain ∙ sym (values_again cs), allowance)
 job_is kind.Start b p cs budget is args copies plain allowance = absurd b
@@ -93,7 +93,7 @@ job_is kind.Ended b p cs budget is args copies plain allowance = absurd b
 job_is (kind.Trapped place trap) b p cs budget is args copies plain allowance = absurd b
 job_is kind.Over b p cs budget is args copies plain allowance = absurd b
 
-pub is_job : (s : PlainShape) (p : Packet) (p' : PlainPacket) (row : List ℤ) (budget : ℕ) → IsBetween p.kind → p'.kind ≡ plain_kind (kind_of p.kind) → p'.args ≡ [] → p'.copies ≡ copies_at s p row → p'.allowance ≡ budget →
+pub is_job : (s : PlainShape) (p : Packet) (p' : PlainPacket) (row : List ℤ) (budget : ℕ) → IsBetweenTicks p.kind → p'.kind ≡ plain_kind (next_job_kind p.kind) → p'.args ≡ [] → p'.copies ≡ copies_at s p row → p'.allowance ≡ budget →
     IsJob p' (job_of s p row budget)
 is_job s p p' row budget between is args copies allowance = job_is p.kind between p' (copies_at s p row) budget is args copies (plain_at s p row) allowance
 

@@ -6,12 +6,12 @@ use Rattle.forec_kernel.specs.declared.shape.VarCopy.{VarCopy}
 use Rattle.forec_kernel.specs.Shapes.{PlainShape, PlainKernel}
 use Rattle.forec_kernel.specs.Texts.{uses_in}
 use Rattle.forec_kernel.specs.WellFormed.{WellFormed}
-use Rattle.forec_kernel.specs.Ticks.{State, Fresh, After_tick, tick, goes_on, start_copies, unmarked, with_row, values_of}
+use Rattle.forec_kernel.specs.Ticks.{TickState, Fresh, After_tick, tick, goes_on, start_copies, unmarked, with_row, values_of}
 use Rattle.forec_kernel.specs.Packets.{Blank, IsPaused, IsEnded, IsTrapped, IsOver}
 use Rattle.forec_kernel.specs.Packed.{HasRoom, IsReply}
 use Rattle.forec_kernel.specs.Engine.{Job, Start, Wake, Reply, WasPaused, WasEnded, WasTrapped, WasOver, Answers}
 use Rattle.forec_kernel.specs.Solo.{values_in, KernelAlone}
-use Rattle.forec_kernel.specs.Composed.{TickInput, tick_job, tick_jobs, next_state, state_after, Tells}
+use Rattle.forec_kernel.specs.Composed.{TickInput, tick_job, tick_jobs, next_state, state_after, MeansReply}
 use Rattle.forec_kernel.proofs.Distinct.{branches_apart}
 use Rattle.forec_kernel.proofs.TickByTick.{each_tick}
 use Rattle.thread_code.specs.Plain.{PlainCode}
@@ -31,7 +31,7 @@ use Rattle.forec_kernel.proofs.KeptCopies.{KeptBy, HasCopies, copies_kept, jobs_
 
 -- ---- the job
 
-same_job : (c : PlainCode) (k : PlainKernel) → c.shape ≡ k.shape → (state : State) (p : Packet) (turn : TickInput) → HoldsState state p → job_of c.shape p turn.row turn.budget ≡ tick_job k state turn
+same_job : (c : PlainCode) (k : PlainKernel) → c.shape ≡ k.shape → (state : TickState) (p : Packet) (turn : TickInput) → HoldsState state p → job_of c.shape p turn.row turn.budget ≡ tick_job k state turn
 same_job c k same Fresh p turn keeps =
     ap (λ q. job_with q (values_in (with_row (uses_in c.shape.threads 0) c.shape.inputs turn.row (copies_before c.shape q p.copies.items))) turn.budget) keeps
     ∙ ap (λ (s : PlainShape). Start [] (values_in (with_row (uses_in s.threads 0) s.inputs turn.row (start_copies s.variables))) turn.budget) same
@@ -81,12 +81,12 @@ pub record Told (c : PlainCode) (k : PlainKernel) (turns : List TickInput) (turn
   pub outputs : HasOutputs (outcome_in p.kind) → values_of (uses_in c.shape.threads 0) p.copies.items c.shape.outputs ≡ (tick k turn.budget (state_after k Fresh turns) turn.row).outputs
   pub keeps : p.kind ≡ kind.Paused → HoldsState (next_state k (state_after k Fresh turns) turn) p
 
-keeps_of : (state : State) (p : Packet) (copies : List VarCopy) → p.kind ≡ kind.Paused → p.copies.items ≡ copies → HasCopies state copies → HoldsState state p
+keeps_of : (state : TickState) (p : Packet) (copies : List VarCopy) → p.kind ≡ kind.Paused → p.copies.items ≡ copies → HasCopies state copies → HoldsState state p
 keeps_of Fresh p copies e f h = absurd h
 keeps_of (After_tick thread) p copies e f h = (e, f ∙ sym h)
 
 told_by : (c : PlainCode) (k : PlainKernel) → c.shape ≡ k.shape → (turns : List TickInput) (turn : TickInput) (p : Packet) (r : Reply) → IsReply (plain_packet p) r →
-    Tells k (tick k turn.budget (state_after k Fresh turns) turn.row) r → KeptBy (next_state k (state_after k Fresh turns) turn) r → Told c k turns turn p
+    MeansReply k (tick k turn.budget (state_after k Fresh turns) turn.row) r → KeptBy (next_state k (state_after k Fresh turns) turn) r → Told c k turns turn p
 told_by c k same turns turn p (WasPaused copies u) is tells kept =
     let q = paused_of p.kind is.0 in
     record {

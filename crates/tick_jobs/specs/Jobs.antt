@@ -11,10 +11,10 @@ use Rattle.combine_tree.specs.declared.packet.PacketKind.{PacketKind}
 use Rattle.combine_tree.specs.declared.packet.PacketKind.TheVariants as kind
 
 -- no tick was run, or the last one paused
-abbrev pub IsBetween : PacketKind → Type 0
-IsBetween kind.Blank = Unit {0}
-IsBetween kind.Paused = Unit {0}
-IsBetween _ = ⊥
+abbrev pub IsBetweenTicks : PacketKind → Type 0
+IsBetweenTicks kind.Blank = Unit {0}
+IsBetweenTicks kind.Paused = Unit {0}
+IsBetweenTicks _ = ⊥
 
 -- the copies with which a tick begins, but for the row: the start values in the first tick, then those of the last reply, unmarked
 abbrev pub copies_before : PlainShape → PacketKind → List VarCopy → List VarCopy
@@ -32,9 +32,9 @@ job_with _ values budget = Wake values budget
 abbrev pub job_of : PlainShape → Packet → List ℤ → ℕ → Job
 job_of s p row budget = job_with p.kind (values_in (copies_at s p row)) budget
 
-abbrev pub kind_of : PacketKind → PacketKind
-kind_of kind.Blank = kind.Start
-kind_of _ = kind.Wake
+abbrev pub next_job_kind : PacketKind → PacketKind
+next_job_kind kind.Blank = kind.Start
+next_job_kind _ = kind.Wake
 
 -- each number is one more than the one before it
 abbrev pub follow_each_other : List ℕ → Bool

@@ -1,6 +1,6 @@
 -- What holds between ticks.
 use Rattle.std.specs.Prelude.{◌≡◌}
-use Rattle.forec_kernel.specs.Ticks.{State, Fresh, After_tick}
+use Rattle.forec_kernel.specs.Ticks.{TickState, Fresh, After_tick}
 use Rattle.combine_tree.specs.declared.packet.Packet.{Packet}
 use Rattle.combine_tree.specs.declared.packet.PacketKind.{PacketKind}
 use Rattle.combine_tree.specs.declared.packet.PacketKind.TheVariants as kind
@@ -14,6 +14,6 @@ IsReady h kind.Paused = HasPaused h
 IsReady h _ = ⊥
 
 -- what the packet of thread 0 has between ticks: before the first nothing, later the copies with which the last one paused
-abbrev pub HoldsState : State → Packet → Type 0
+abbrev pub HoldsState : TickState → Packet → Type 0
 HoldsState Fresh p = p.kind ≡ kind.Blank
 HoldsState (After_tick thread) p = (p.kind ≡ kind.Paused) × (p.copies.items ≡ thread.copies)

@@ -49,7 +49,7 @@ MayTell c book t (Start args values a) = Unit {0}
 MayTell c book t (Wake values a) = IsAsleep c t (book t)
 
 -- this job is for a branch of thread t, and it may be told
-pub record IsJobFor (c : PlainCode) (book : Book) (t : ℕ) (w : Written) : Type 0 where
+pub record MayTellJob (c : PlainCode) (book : Book) (t : ℕ) (w : Written) : Type 0 where
   pub place : ℕ
   pub branch : w.branch ≡ suc place
   pub mine : IsBranchOf c.shape t place

@@ -8,7 +8,7 @@ ghost use Rattle.forec_kernel.specs.WellFormed.{all_below, count_up};
 ghost use Rattle.forec_base.specs.declared.limits.TheConstants.{MAX_GLOBALS};
 ghost use Rattle.combine_tree.specs.Plain.{plain_packet};
 ghost use Rattle.thread_code.specs.Valid.{FineShape, of_shape};
-ghost use Rattle.tick_jobs.specs.Jobs.{IsBetween, copies_before, follow_each_other, job_of, kind_of};
+ghost use Rattle.tick_jobs.specs.Jobs.{IsBetweenTicks, copies_before, follow_each_other, job_of, next_job_kind};
 
 use combine_tree::{Packet, PacketKind};
 use forec_kernel::{Shape, VarCopy, Variable};
@@ -96,7 +96,7 @@ fn write_row(copies: &mut [VarCopy], inputs: &[u32], row: &[i32])
 fn write_before(packet: &mut Packet, shape: &Shape)
     requires fine { FineShape (plain_shape shape.now) }
     requires room { HasRoom (of_shape (plain_shape shape.now)) 0 (plain_packet packet.old) }
-    ensures kind { packet.new.kind ≡ kind_of packet.old.kind }
+    ensures kind { packet.new.kind ≡ next_job_kind packet.old.kind }
     ensures args { packet.new.args.items ≡ packet.old.args.items }
     ensures copies { packet.new.copies.items
         ≡ copies_before (plain_shape shape.now) packet.old.kind packet.old.copies.items }
@@ -118,11 +118,11 @@ fn write_before(packet: &mut Packet, shape: &Shape)
 pub fn write_job(packet: &mut Packet, shape: &Shape, row: &[i32], budget: u64)
     requires fine { FineShape (plain_shape shape.now) }
     requires room { HasRoom (of_shape (plain_shape shape.now)) 0 (plain_packet packet.old) }
-    requires between { IsBetween packet.old.kind }
+    requires between { IsBetweenTicks packet.old.kind }
     requires row { length row.now ≡ length (plain_shape shape.now).inputs }
     ensures room { HasRoom (of_shape (plain_shape shape.now)) 0 (plain_packet packet.new) }
     ensures job { IsJob (plain_packet packet.new) (job_of (plain_shape shape.now) packet.old row.now budget) }
-    ensures kind { packet.new.kind ≡ kind_of packet.old.kind }
+    ensures kind { packet.new.kind ≡ next_job_kind packet.old.kind }
     ensures allowance { packet.new.allowance ≡ budget }
 {
     write_before(packet, shape);

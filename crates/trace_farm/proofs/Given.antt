@@ -16,7 +16,7 @@ use Rattle.trace_runs.specs.Led.{IsTold, IsTraceReport}
 use Rattle.trace_runs.specs.declared.format.Format.{Format}
 use Rattle.trace_runs.specs.declared.format.Telling.TheVariants as telling
 use Rattle.trace_runs.specs.Report.{Report, trace_report}
-use Rattle.trace_runs.specs.StatusNumbers.{number_of}
+use Rattle.trace_runs.specs.StatusNumbers.{status_number}
 use Rattle.trace_runs.specs.Ticking.{Starts}
 use Rattle.trace_runs.specs.declared.status.Status.{Status}
 use Rattle.trace_farm.specs.declared.farm_report.FarmReport.{FarmReport}
@@ -45,7 +45,7 @@ reported rows limit budget units how k trace rest held bytes kept end (Ok r) few
     let whole : g.0 ≡ trace_report rows format k budget trace =
     g.1.2 ∙ ap₂ (λ (n b : ℕ). trace_report n how k b g.1.0) few small ∙ ap (λ (f : Format). trace_report rows f k budget g.1.0) told ∙ ap (trace_report rows format k budget) (sym read ∙ same) in
     let given : bytes ≡ g.0.bytes = g.2.bytes ∙ ap (λ (h : List ℕ). h ++ g.0.bytes) none in
-    is ∙ ap₂ (λ (b : List ℕ) (n : ℕ). numbers b n) (stays ∙ given) (ap number_of g.2.status) ∙ ap with_number whole
+    is ∙ ap₂ (λ (b : List ℕ) (n : ℕ). numbers b n) (stays ∙ given) (ap status_number g.2.status) ∙ ap with_number whole
 
 module _ (rows : ℕ) (k : PlainKernel) (budget : ℕ) where
   abbrev of : Vec ℕ Global → NumberedReport

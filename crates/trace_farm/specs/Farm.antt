@@ -9,11 +9,11 @@ use Rattle.thread_code.specs.Plain.{PlainCode}
 use Rattle.thread_code.specs.declared.instruction.CodeParts.{CodeParts}
 use Rattle.core_alloc.specs.Places.{Places}
 use Rattle.core_host.specs.Hosted.{Hosted, is_live, IsWhole}
-use Rattle.core_host.specs.Runs.{HasRun}
+use Rattle.core_host.specs.Runs.{HostHasRun}
 use Rattle.trace_runs.specs.KernelNames.{run_format}
 use Rattle.trace_runs.specs.Report.{Report, trace_report}
 use Rattle.trace_runs.specs.declared.format.Telling.TheVariants as telling
-use Rattle.trace_runs.specs.StatusNumbers.{number_of}
+use Rattle.trace_runs.specs.StatusNumbers.{status_number}
 use Rattle.trace_runs.specs.declared.status.Status.{Status}
 use Rattle.trace_farm.specs.declared.farm_report.FarmReport.{FarmReport}
 
@@ -23,7 +23,7 @@ pub record NumberedReport : Type 0 where
   pub status : ℕ
 
 abbrev pub with_number : Report → NumberedReport
-with_number r = record { bytes = r.bytes; status = number_of r.status }
+with_number r = record { bytes = r.bytes; status = status_number r.status }
 
 -- a report that is kept, as such a value
 abbrev pub plain_report : FarmReport → NumberedReport
@@ -31,7 +31,7 @@ plain_report r = record { bytes = r.bytes.items; status = r.status }
 
 -- it has these bytes, and the number of this status
 abbrev pub KeepsReport : List ℕ → Status → FarmReport → Type 0
-KeepsReport bytes status r = plain_report r ≡ record { bytes = bytes; status = number_of status }
+KeepsReport bytes status r = plain_report r ≡ record { bytes = bytes; status = status_number status }
 
 -- what a kernel reports of a trace, of which at most `rows` rows are run
 abbrev pub report_of : (rows : ℕ) → PlainKernel → ℕ → List ℕ → NumberedReport
@@ -54,7 +54,7 @@ pub record IsFreshHost (code : CodeParts) (h : Hosted) : Type 0 where
   pub code_is : h.code ≡ code
   pub whole : IsWhole h
   pub live : is_live h ≡ true
-  pub none : HasRun h []
+  pub none : HostHasRun h []
 
 -- there is a core for each thread of a code
 abbrev pub IsPlacedFor : PlainCode → Places → Type 0

@@ -7,8 +7,8 @@ use Rattle.std.proofs.lemmas.Bool.{cases_lt, eq-eqb}
 use Rattle.std.proofs.lemmas.List.{drop-take, drop_all, get_or-drop, get_or-take, length-drop, length-take, take_at}
 use Rattle.std.proofs.lemmas.List.Sums.{fails_before_first, passes_at_first, position_or_len_is, prefix_len-le-length}
 use Rattle.trace_rows.specs.Changes.{is_equals, change_in, changed_row}
-use Rattle.trace_rows.specs.Numbers.{number_of}
-use Rattle.trace_rows.specs.Words.{is_blank, words_of, BeginsNoBlank}
+use Rattle.trace_rows.specs.Numbers.{word_number}
+use Rattle.trace_rows.specs.Words.{is_blank, line_words, BeginsNoBlank}
 use Rattle.trace_rows.proofs.Splitting.{words_of-word, words_of-empty}
 
 -- the first that passes, in the front of a list and behind elements that don't
@@ -42,13 +42,13 @@ with_no_input : {A B : Type 0} (o : Option A) → option_and_then {T = A} {U = B
 with_no_input None = refl
 with_no_input (Some x) = refl
 
-no_number : (names : List (List ℕ)) (word : List ℕ) → number_of (after_first is_equals word) ≡ None → change_in names word ≡ None
+no_number : (names : List (List ℕ)) (word : List ℕ) → word_number (after_first is_equals word) ≡ None → change_in names word ≡ None
 no_number names word e = rw e (with_no_input (position (bytes_eq (before_first is_equals word)) names))
 
 no_input : (names : List (List ℕ)) (word : List ℕ) → position (bytes_eq (before_first is_equals word)) names ≡ None → change_in names word ≡ None
 no_input names word e = rw e refl
 
-some_change : (names : List (List ℕ)) (word : List ℕ) (i : ℕ) (v : ℤ) → position (bytes_eq (before_first is_equals word)) names ≡ Some i → number_of (after_first is_equals word) ≡ Some v →
+some_change : (names : List (List ℕ)) (word : List ℕ) (i : ℕ) (v : ℤ) → position (bytes_eq (before_first is_equals word)) names ≡ Some i → word_number (after_first is_equals word) ≡ Some v →
     change_in names word ≡ Some (i, v)
 some_change names word i v e n = rw (e, n) refl
 
@@ -56,7 +56,7 @@ some_change names word i v e n = rw (e, n) refl
 pub no_equals : (names : List (List ℕ)) (t : List ℕ) → position_or_len is_blank t ≤ position_or_len is_equals t → change_in names (take (position_or_len is_blank t) t) ≡ None
 no_equals names t high =
     let word : List ℕ = take (position_or_len is_blank t) t in
-    no_number names word (ap number_of (drop_all (position_or_len is_equals word + 1) word (omega (arith, none_in_front is_equals t (position_or_len is_blank t) high))))
+    no_number names word (ap word_number (drop_all (position_or_len is_equals word + 1) word (omega (arith, none_in_front is_equals t (position_or_len is_blank t) high))))
 
 module _ (names : List (List ℕ)) (t : List ℕ) (n : ℕ) (at : n ≡ position_or_len is_equals t) (low : n < position_or_len is_blank t) where
   abbrev pub l : ℕ
@@ -80,13 +80,13 @@ module _ (names : List (List ℕ)) (t : List ℕ) (n : ℕ) (at : n ≡ position
   pub number_is : after_first is_equals word ≡ take l (drop (n + 1) t)
   number_is = ap (λ k. drop (k + 1) word) equals_at ∙ drop-take (n + 1) l t
 
-  pub is_change : (i len : ℕ) (v : ℤ) → len ≡ l → Some i ≡ position (bytes_eq (take n t)) names → number_of (take len (drop (n + 1) t)) ≡ Some v → change_in names (take (n + 1 + len) t) ≡ Some (i, v)
+  pub is_change : (i len : ℕ) (v : ℤ) → len ≡ l → Some i ≡ position (bytes_eq (take n t)) names → word_number (take len (drop (n + 1) t)) ≡ Some v → change_in names (take (n + 1 + len) t) ≡ Some (i, v)
   is_change i len v e p number =
       ap (λ k. change_in names (take (n + 1 + k) t)) e
-      ∙ some_change names word i v (ap (λ w. position (bytes_eq w) names) name_is ∙ sym p) (ap number_of number_is ∙ ap (λ k. number_of (take k (drop (n + 1) t))) (sym e) ∙ number)
+      ∙ some_change names word i v (ap (λ w. position (bytes_eq w) names) name_is ∙ sym p) (ap word_number number_is ∙ ap (λ k. word_number (take k (drop (n + 1) t))) (sym e) ∙ number)
 
-  pub is_no_number : number_of (take l (drop (n + 1) t)) ≡ None → change_in names (take (position_or_len is_blank t) t) ≡ None
-  is_no_number e = ap (λ k. change_in names (take k t)) (sym word_len) ∙ no_number names word (ap number_of number_is ∙ e)
+  pub is_no_number : word_number (take l (drop (n + 1) t)) ≡ None → change_in names (take (position_or_len is_blank t) t) ≡ None
+  is_no_number e = ap (λ k. change_in names (take k t)) (sym word_len) ∙ no_number names word (ap word_number number_is ∙ e)
 
   pub is_no_input : None ≡ position (bytes_eq (take n t)) names → change_in names (take (position_or_len is_blank t) t) ≡ None
   is_no_input e = ap (λ k. change_in names (take k t)) (sym word_len) ∙ no_input names word (ap (λ w. position (bytes_eq w) names) name_is ∙ sym e)
@@ -139,7 +139,7 @@ changed_row-stops : (names : List (List ℕ)) (named : List Bool) (row : List �
 changed_row-stops names named row w words e =
     ap (option_and_then (λ c. if get_or named c.0 false then None else changed_row names (set named c.0 true) (set row c.0 c.1) words)) e
 
-module _ (names : List (List ℕ)) (named : List Bool) (row : List ℤ) (rest : List ℕ) (whole : Option (List ℤ)) (so_far : changed_row names named row (words_of rest) ≡ whole) where
+module _ (names : List (List ℕ)) (named : List Bool) (row : List ℤ) (rest : List ℕ) (whole : Option (List ℤ)) (so_far : changed_row names named row (line_words rest) ≡ whole) where
   -- no word is left
   pub all_changed : length rest ≡ 0 → whole ≡ Some row
   all_changed none = sym so_far ∙ ap (changed_row names named row) (words_of-empty rest none)
@@ -149,16 +149,16 @@ module _ (names : List (List ℕ)) (named : List Bool) (row : List ℤ) (rest : 
     pub no_change : change_in names (take (position_or_len is_blank rest) rest) ≡ None → whole ≡ None
     no_change bad =
         let end = position_or_len is_blank rest in
-        sym so_far ∙ ap (changed_row names named row) (words_of-word rest end some begins refl) ∙ changed_row-stops names named row (take end rest) (words_of (drop end rest)) bad
+        sym so_far ∙ ap (changed_row names named row) (words_of-word rest end some begins refl) ∙ changed_row-stops names named row (take end rest) (line_words (drop end rest)) bad
 
     module _ (len i : ℕ) (v : ℤ) (end : len ≡ position_or_len is_blank rest) (good : change_in names (take len rest) ≡ Some (i, v)) where
-      step : cond (get_or named i false) None (changed_row names (set named i true) (set row i v) (words_of (drop len rest))) ≡ whole
-      step = sym (ap (changed_row names named row) (words_of-word rest len some begins end) ∙ changed_row-cons names named row (take len rest) (words_of (drop len rest)) i v good) ∙ so_far
+      step : cond (get_or named i false) None (changed_row names (set named i true) (set row i v) (line_words (drop len rest))) ≡ whole
+      step = sym (ap (changed_row names named row) (words_of-word rest len some begins end) ∙ changed_row-cons names named row (take len rest) (line_words (drop len rest)) i v good) ∙ so_far
 
       -- a word that changes an input once more
       pub named_twice : get_or named i false ≡ true → whole ≡ None
       named_twice twice = sym step ∙ rw twice refl
 
       -- a word more
-      pub change_more : (after : List ℕ) → words_of after ≡ words_of (drop len rest) → get_or named i false ≡ false → changed_row names (set named i true) (set row i v) (words_of after) ≡ whole
+      pub change_more : (after : List ℕ) → line_words after ≡ line_words (drop len rest) → get_or named i false ≡ false → changed_row names (set named i true) (set row i v) (line_words after) ≡ whole
       change_more after same once = ap (changed_row names (set named i true) (set row i v)) same ∙ sym (rw once refl) ∙ step

@@ -7,11 +7,11 @@ use Rattle.trace_rows.specs.declared.fault.RowFault.{RowFault}
 use Rattle.trace_rows.specs.declared.fault.RowFault.TheVariants as fault
 use Rattle.trace_rows.specs.Calls.{IfTold}
 use Rattle.trace_rows.specs.Lines.{is_newline, lines_of}
-use Rattle.trace_rows.specs.Words.{words_of}
+use Rattle.trace_rows.specs.Words.{line_words}
 use Rattle.trace_rows.specs.Reader.{Reader, Came, NextSays, NextTakes, first_line}
 use Rattle.trace_rows.specs.SourceReads.{TakesRow}
 use Rattle.trace_rows.specs.Steps.{FindsNext}
-use Rattle.trace_rows.specs.Trace.{Row, Form, InOrder, Changes, row_width, most_bytes, next_form, onto, row_of, row_at, rows_from}
+use Rattle.trace_rows.specs.Trace.{Row, Form, InOrder, Changes, row_width, most_line_bytes, next_form, onto, row_of, row_at, rows_from}
 use Rattle.trace_rows.proofs.Told.{told_of, told_map, end_told, long_told, LongLine, some_told, SomeLine, LineOf, line_told, takes_first}
 use Rattle.trace_rows.proofs.Heads.{row_many, row_long, row_bad, row_good, no_row, some_row, end_row}
 
@@ -37,10 +37,10 @@ end_says old new row held ended a b came finds at_end =
 
 -- a line that is no row
 pub bad_says : (old new : Reader) (row : Row) (line bytes : List ℕ) (ended : Bool) (a b : Option (List ℕ)) → Came old.held bytes a b → FindsNext old.limit old.given bytes ended (Ok next.Row) → (ended ≡ true → IsAtEnd b) →
-    line ≡ first_line bytes → row_of old.form (words_of line) ≡ None → IfTold a b (NextSays old new row (Err fault.Bad))
+    line ≡ first_line bytes → row_of old.form (line_words line) ≡ None → IfTold a b (NextSays old new row (Err fault.Bad))
 bad_says old new row line bytes ended a b came finds at_end e bad =
     let rest : List ℕ = after_first is_newline bytes in
-    let short : length line ≤ most_bytes = subst (λ (l : List ℕ). length l ≤ most_bytes) (sym e) finds.1 in
+    let short : length line ≤ most_line_bytes = subst (λ (l : List ℕ). length l ≤ most_line_bytes) (sym e) finds.1 in
     told_map a b (LineOf line old.held rest) (NextSays old new row (Err fault.Bad))
     (line_told line old.held rest ended a b (takes_first line old.held rest bytes ended a b came finds.2 finds.3 e refl) at_end)
     (λ x y l. no_row old.limit (old.given + 1) old.form line fault.Bad (lines_of (old.held ++ x)) (lines_of (rest ++ y)) l
@@ -53,13 +53,13 @@ next_width (Changes names last) row e = e
 
 -- a row
 pub row_is : (old : Reader) (row : Row) (line bytes : List ℕ) (ended : Bool) → FindsNext old.limit old.given bytes ended (Ok next.Row) → line ≡ first_line bytes →
-    row_of old.form (words_of line) ≡ Some row → row_at old.limit old.form (old.given + 1) line ≡ Ok row
+    row_of old.form (line_words line) ≡ Some row → row_at old.limit old.form (old.given + 1) line ≡ Ok row
 row_is old row line bytes ended finds e good =
-    row_good old.limit (old.given + 1) old.form line row (let h = finds.0 in omega arith) (subst (λ (l : List ℕ). length l ≤ most_bytes) (sym e) finds.1) good
+    row_good old.limit (old.given + 1) old.form line row (let h = finds.0 in omega arith) (subst (λ (l : List ℕ). length l ≤ most_line_bytes) (sym e) finds.1) good
 
 pub row_takes : (old new : Reader) (row : Row) (line bytes : List ℕ) (ended : Bool) (a b : Option (List ℕ)) → Came old.held bytes a b → FindsNext old.limit old.given bytes ended (Ok next.Row) →
     line ≡ first_line bytes → new.held ≡ after_first is_newline bytes → new.ended ≡ ended →
-    row_of old.form (words_of line) ≡ Some row → NextTakes old new row a b (Ok next.Row)
+    row_of old.form (line_words line) ≡ Some row → NextTakes old new row a b (Ok next.Row)
 row_takes old new row line bytes ended a b came finds e rest same good = (
   line,
   row_is old row line bytes ended finds e good,
@@ -68,7 +68,7 @@ row_takes old new row line bytes ended a b came finds e rest same good = (
 
 pub row_took : (old new : Reader) (row : Row) (line bytes : List ℕ) (ended : Bool) → FindsNext old.limit old.given bytes ended (Ok next.Row) →
     line ≡ first_line bytes → new.held ≡ after_first is_newline bytes → new.ended ≡ ended →
-    row_of old.form (words_of line) ≡ Some row → TakesRow old new row bytes
+    row_of old.form (line_words line) ≡ Some row → TakesRow old new row bytes
 row_took old new row line bytes ended finds e rest same good =
     record {
       row_is = subst (λ (l : List ℕ). row_at old.limit old.form (old.given + 1) l ≡ Ok row) e (row_is old row line bytes ended finds e good);
@@ -76,7 +76,7 @@ row_took old new row line bytes ended finds e rest same good =
     }
 
 pub row_says : (old : Reader) (row : Row) (form : Form) (line bytes held : List ℕ) (ended was live : Bool) (a b : Option (List ℕ)) → Came old.held bytes a b → FindsNext old.limit old.given bytes was (Ok next.Row) →
-    (was ≡ true → IsAtEnd b) → line ≡ first_line bytes → held ≡ after_first is_newline bytes → row_of old.form (words_of line) ≡ Some row → form ≡ next_form old.form row →
+    (was ≡ true → IsAtEnd b) → line ≡ first_line bytes → held ≡ after_first is_newline bytes → row_of old.form (line_words line) ≡ Some row → form ≡ next_form old.form row →
     IfTold a b (NextSays old (record { held = held; ended = ended; form = form; limit = old.limit; given = old.given + 1; live = live }) row (Ok next.Row))
 row_says old row form line bytes held ended was live a b came finds at_end e rest good follows =
     told_map a b (LineOf line old.held held) (NextSays old (record { held = held; ended = ended; form = form; limit = old.limit; given = old.given + 1; live = live }) row (Ok next.Row))

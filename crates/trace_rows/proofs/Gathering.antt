@@ -4,7 +4,7 @@ use Rattle.std.specs.Io.KnownBytes.{Consumes, Keeps}
 use Rattle.forec_base.specs.Outside.{HasCause}
 use Rattle.trace_rows.specs.Reader.{HasLine, Came}
 use Rattle.trace_rows.specs.SourceReads.{IsRead, none, more, Gathers}
-use Rattle.trace_rows.specs.Trace.{most_bytes}
+use Rattle.trace_rows.specs.Trace.{most_line_bytes}
 use Rattle.trace_rows.proofs.Refilling.{consumes_nothing}
 
 module _ {S : Type 0} (left : S → Option (List ℕ)) (faults : S → ℕ) (down : S → Bool) where
@@ -13,13 +13,13 @@ module _ {S : Type 0} (left : S → Option (List ℕ)) (faults : S → ℕ) (dow
   gathers_none held ended s = record { given = []; behind = sym (append-nil held); reads = none }
 
   -- one read more
-  pub gathers_more : (held w w' : List ℕ) (ended : Bool) (s t u : S) → Gathers left faults down held ended w s t → (HasLine w → ⊥) → ended ≡ false → length w ≤ most_bytes →
+  pub gathers_more : (held w w' : List ℕ) (ended : Bool) (s t u : S) → Gathers left faults down held ended w s t → (HasLine w → ⊥) → ended ≡ false → length w ≤ most_line_bytes →
       (piece : List ℕ) × (w' ≡ w ++ piece) × IsRead left faults down t u piece → Gathers left faults down held ended w' s u
   gathers_more held w w' ended s t u g lacks on short p =
       record {
         given = g.given ++ p.0;
         behind = p.1 ∙ ap (λ x. x ++ p.0) g.behind ∙ append_assoc held g.given p.0;
-        reads = more g.reads (subst (λ (x : List ℕ). HasLine x → ⊥) g.behind lacks, on, subst (λ (x : List ℕ). length x ≤ most_bytes) g.behind short) p.2;
+        reads = more g.reads (subst (λ (x : List ℕ). HasLine x → ⊥) g.behind lacks, on, subst (λ (x : List ℕ). length x ≤ most_line_bytes) g.behind short) p.2;
       }
 
   -- the source failed

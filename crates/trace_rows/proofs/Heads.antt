@@ -4,24 +4,24 @@ use Rattle.std.proofs.lemmas.Bool.{lt-ltb, le-ltb}
 use Rattle.std.proofs.lemmas.List.{take_at}
 use Rattle.trace_rows.specs.declared.fault.RowFault.{RowFault}
 use Rattle.trace_rows.specs.declared.fault.RowFault.TheVariants as fault
-use Rattle.trace_rows.specs.Held.{Finds}
+use Rattle.trace_rows.specs.Held.{FindsFirstLine}
 use Rattle.trace_rows.specs.Lines.{lines_of}
 use Rattle.trace_rows.specs.Reader.{Came}
 use Rattle.trace_rows.specs.Steps.{TakesHeader, NoHeader}
-use Rattle.trace_rows.specs.Words.{words_of}
-use Rattle.trace_rows.specs.Trace.{Row, Form, most_bytes, form_of, form_after, next_form, header_at, rows_of_lines, stop, behind, rows_from, row_of, row_at, onto}
+use Rattle.trace_rows.specs.Words.{line_words}
+use Rattle.trace_rows.specs.Trace.{Row, Form, most_line_bytes, form_of, form_after, next_form, header_at, rows_of_lines, stop, behind, rows_from, row_of, row_at, onto}
 use Rattle.trace_rows.proofs.Told.{told_map, long_told, LongLine}
 
 -- ---- headers
 
-pub header_long : (inputs : List (List ℕ)) (line : List ℕ) → most_bytes < length line → header_at inputs line ≡ Err fault.Long
-header_long inputs line long = rw (lt-ltb most_bytes (length line) long) refl
+pub header_long : (inputs : List (List ℕ)) (line : List ℕ) → most_line_bytes < length line → header_at inputs line ≡ Err fault.Long
+header_long inputs line long = rw (lt-ltb most_line_bytes (length line) long) refl
 
-pub header_bad : (inputs : List (List ℕ)) (line : List ℕ) → length line ≤ most_bytes → form_of inputs (words_of line) ≡ None → header_at inputs line ≡ Err fault.Bad
-header_bad inputs line short bad = rw (le-ltb most_bytes (length line) short, bad) refl
+pub header_bad : (inputs : List (List ℕ)) (line : List ℕ) → length line ≤ most_line_bytes → form_of inputs (line_words line) ≡ None → header_at inputs line ≡ Err fault.Bad
+header_bad inputs line short bad = rw (le-ltb most_line_bytes (length line) short, bad) refl
 
-pub header_good : (inputs : List (List ℕ)) (line : List ℕ) (form : Form) → length line ≤ most_bytes → form_of inputs (words_of line) ≡ Some form → header_at inputs line ≡ Ok form
-header_good inputs line form short good = rw (le-ltb most_bytes (length line) short, good) refl
+pub header_good : (inputs : List (List ℕ)) (line : List ℕ) (form : Form) → length line ≤ most_line_bytes → form_of inputs (line_words line) ≡ Some form → header_at inputs line ≡ Ok form
+header_good inputs line form short good = rw (le-ltb most_line_bytes (length line) short, good) refl
 
 -- lines that begin with no header
 pub no_header : (inputs : List (List ℕ)) (line : List ℕ) (f : RowFault) (all lines : List (List ℕ)) → all ≡ line ∷ lines → header_at inputs line ≡ Err f →
@@ -33,7 +33,7 @@ pub some_header : (inputs : List (List ℕ)) (line : List ℕ) (form : Form) (al
 some_header inputs line form all lines e good limit = ap (rows_of_lines inputs limit) e ∙ ap (λ r. behind r (λ form. rows_from limit form 1 lines)) good
 
 -- why no header was taken, where no first line was found
-pub header_fault : (inputs : List (List ℕ)) (places w bytes : List ℕ) (was is : Bool) (a b : Option (List ℕ)) (f : RowFault) → Came w bytes a b → (is ≡ false → was ≡ false) → Finds bytes is (Err f) →
+pub header_fault : (inputs : List (List ℕ)) (places w bytes : List ℕ) (was is : Bool) (a b : Option (List ℕ)) (f : RowFault) → Came w bytes a b → (is ≡ false → was ≡ false) → FindsFirstLine bytes is (Err f) →
     TakesHeader inputs places w bytes was is a b (Err f)
 header_fault inputs places w bytes was is a b fault.Bad came stays finds = absurd finds
 header_fault inputs places w bytes was is a b fault.Long came stays long =
@@ -53,14 +53,14 @@ written new old n e = take_at new (drop (length new) old) n (sym e)
 pub row_many : (limit n : ℕ) (form : Form) (line : List ℕ) → limit < n → row_at limit form n line ≡ Err fault.Many
 row_many limit n form line h = rw (lt-ltb limit n h) refl
 
-pub row_long : (limit n : ℕ) (form : Form) (line : List ℕ) → n ≤ limit → most_bytes < length line → row_at limit form n line ≡ Err fault.Long
-row_long limit n form line h long = rw (le-ltb limit n h, lt-ltb most_bytes (length line) long) refl
+pub row_long : (limit n : ℕ) (form : Form) (line : List ℕ) → n ≤ limit → most_line_bytes < length line → row_at limit form n line ≡ Err fault.Long
+row_long limit n form line h long = rw (le-ltb limit n h, lt-ltb most_line_bytes (length line) long) refl
 
-pub row_bad : (limit n : ℕ) (form : Form) (line : List ℕ) → n ≤ limit → length line ≤ most_bytes → row_of form (words_of line) ≡ None → row_at limit form n line ≡ Err fault.Bad
-row_bad limit n form line h short bad = rw (le-ltb limit n h, le-ltb most_bytes (length line) short, bad) refl
+pub row_bad : (limit n : ℕ) (form : Form) (line : List ℕ) → n ≤ limit → length line ≤ most_line_bytes → row_of form (line_words line) ≡ None → row_at limit form n line ≡ Err fault.Bad
+row_bad limit n form line h short bad = rw (le-ltb limit n h, le-ltb most_line_bytes (length line) short, bad) refl
 
-pub row_good : (limit n : ℕ) (form : Form) (line : List ℕ) (row : Row) → n ≤ limit → length line ≤ most_bytes → row_of form (words_of line) ≡ Some row → row_at limit form n line ≡ Ok row
-row_good limit n form line row h short good = rw (le-ltb limit n h, le-ltb most_bytes (length line) short, good) refl
+pub row_good : (limit n : ℕ) (form : Form) (line : List ℕ) (row : Row) → n ≤ limit → length line ≤ most_line_bytes → row_of form (line_words line) ≡ Some row → row_at limit form n line ≡ Ok row
+row_good limit n form line row h short good = rw (le-ltb limit n h, le-ltb most_line_bytes (length line) short, good) refl
 
 -- lines that begin with no row
 pub no_row : (limit n : ℕ) (form : Form) (line : List ℕ) (f : RowFault) (all lines : List (List ℕ)) → all ≡ line ∷ lines → row_at limit form n line ≡ Err f →

@@ -6,17 +6,17 @@ use Rattle.std.proofs.lemmas.List.{take_all, drop_all, drop_more, length-take}
 use Rattle.std.proofs.lemmas.List.Elements.{All-from_get_or}
 use Rattle.std.proofs.lemmas.List.Splits.{slice_split-cons_yes, slice_split_first, slice_split_none}
 use Rattle.std.proofs.lemmas.List.Sums.{fails_before_first, passes_at_first, prefix_len-le-length}
-use Rattle.trace_rows.specs.Words.{is_blank, is_some_text, words_of, BeginsNoBlank}
+use Rattle.trace_rows.specs.Words.{is_blank, is_some_text, line_words, BeginsNoBlank}
 
-pub words_of-blank : (b : ℕ) (bs : List ℕ) → is_blank b ≡ true → words_of (b ∷ bs) ≡ words_of bs
-unfolding words_of
+pub words_of-blank : (b : ℕ) (bs : List ℕ) → is_blank b ≡ true → line_words (b ∷ bs) ≡ line_words bs
+unfolding line_words
 words_of-blank b bs e = rw (slice_split-cons_yes is_blank b bs e) refl
 
-pub words_of-none : words_of [] ≡ []
-unfolding words_of
+pub words_of-none : line_words [] ≡ []
+unfolding line_words
 words_of-none = refl
 
-pub words_of-empty : (line : List ℕ) → length line ≡ 0 → words_of line ≡ []
+pub words_of-empty : (line : List ℕ) → length line ≡ 0 → line_words line ≡ []
 words_of-empty [] e = words_of-none
 words_of-empty (b ∷ bs) e = absurd (omega arith)
 
@@ -30,28 +30,28 @@ word_some [] some begins = absurd (omega arith)
 word_some (b ∷ bs) some begins = rw begins (omega arith)
 
 word_and : (line : List ℕ) → position_or_len is_blank line < length line → 0 < position_or_len is_blank line →
-    words_of line ≡ take (position_or_len is_blank line) line ∷ words_of (drop (position_or_len is_blank line + 1) line)
-unfolding words_of
+    line_words line ≡ take (position_or_len is_blank line) line ∷ line_words (drop (position_or_len is_blank line + 1) line)
+unfolding line_words
 word_and line low some =
     let n = position_or_len is_blank line in
     rw (slice_split_first is_blank line 0 low) (kept (take n line) (slice_split is_blank (drop (n + 1) line)) (omega (arith, length-take n line)))
 
-word_alone : (line : List ℕ) → All (λ b. is_blank b ≡ false) line → 0 < length line → words_of line ≡ line ∷ []
-unfolding words_of
+word_alone : (line : List ℕ) → All (λ b. is_blank b ≡ false) line → 0 < length line → line_words line ≡ line ∷ []
+unfolding line_words
 word_alone line none some = rw (slice_split_none is_blank line none) (kept line [] some)
 
 -- a line that begins with no blank, cut at its first blank or its end
 pub words_of-word : (line : List ℕ) (n : ℕ) → 0 < length line → BeginsNoBlank line → n ≡ position_or_len is_blank line →
-    words_of line ≡ take n line ∷ words_of (drop n line)
+    line_words line ≡ take n line ∷ line_words (drop n line)
 words_of-word line n some begins e =
     let first = position_or_len is_blank line in
     let long : first ≤ length line = prefix_len-le-length (λ b. not (is_blank b)) line in
     rw e (elim (cases_lt first (length line)) [
       | inl low ↦ (word_and line low (word_some line some begins)
-          ∙ ap (λ ws. take first line ∷ ws) (sym (ap words_of (drop_more line first 0 low) ∙ words_of-blank (get_or line first 0) (drop (first + 1) line) (passes_at_first is_blank line 0 low))))
+          ∙ ap (λ ws. take first line ∷ ws) (sym (ap line_words (drop_more line first 0 low) ∙ words_of-blank (get_or line first 0) (drop (first + 1) line) (passes_at_first is_blank line 0 low))))
       | inr high ↦ (word_alone line (All-from_get_or (λ b. is_blank b ≡ false) line 0 (λ k h. fails_before_first is_blank line k 0 (omega arith))) some
           ∙ ap (λ ws. line ∷ ws) (sym words_of-none)
-          ∙ sym (ap (λ w. w ∷ words_of (drop first line)) (take_all first line (omega arith)) ∙ ap (λ r. line ∷ words_of r) (drop_all first line (omega arith))))
+          ∙ sym (ap (λ w. w ∷ line_words (drop first line)) (take_all first line (omega arith)) ∙ ap (λ r. line ∷ line_words r) (drop_all first line (omega arith))))
     ])
 
 by_test : {P : Type 0} (n : ℕ) (b : Bool) → cond b (Some n) None ≡ None → (b ≡ false → P) → P

@@ -12,12 +12,12 @@ use Rattle.trace_rows.specs.declared.fault.RowFault.{RowFault}
 use Rattle.trace_rows.specs.declared.fault.RowFault.TheVariants as fault
 use Rattle.trace_rows.specs.Calls.{IfTold}
 use Rattle.trace_rows.specs.Lines.{lines_of}
-use Rattle.trace_rows.specs.Words.{words_of}
+use Rattle.trace_rows.specs.Words.{line_words}
 use Rattle.trace_rows.specs.Reader.{Reader, Takes, StartSays}
 use Rattle.trace_rows.specs.RowForms.{form_with}
 use Rattle.trace_rows.specs.SourceReads.{StartTook}
 use Rattle.trace_rows.specs.Steps.{TakesHeader, NoHeader}
-use Rattle.trace_rows.specs.Trace.{Form, InOrder, most_bytes, first_form, is_mark, names_each, or_bad, places_of, header_at, rows_of_lines, rows_from, stop, trace_of}
+use Rattle.trace_rows.specs.Trace.{Form, InOrder, most_line_bytes, first_form, is_mark, names_each, or_bad, places_of, header_at, rows_of_lines, rows_from, stop, trace_of}
 use Rattle.trace_rows.proofs.Told.{told_of, told_map, LineOf, line_told}
 use Rattle.trace_rows.proofs.Heads.{some_header}
 use Rattle.trace_rows.proofs.HeaderWords.{stands_once}
@@ -66,7 +66,7 @@ pub header_within : (inputs : List (List ℕ)) (line places : List ℕ) (changes
     All (λ place. place < length places) places
 header_within inputs line places true e n = absurd cc
 header_within inputs line places false e n =
-    by_tests inputs (words_of line) places (nat_lt most_bytes (length line)) (is_mark (words_of line)) (names_each inputs (words_of line)) refl e
+    by_tests inputs (line_words line) places (nat_lt most_line_bytes (length line)) (is_mark (line_words line)) (names_each inputs (line_words line)) refl e
 
 -- ---- the first call
 

@@ -6,7 +6,7 @@ use Rattle.std.proofs.lemmas.Bool.{cases_lt}
 use Rattle.trace_rows.specs.Calls.{IfTold}
 use Rattle.trace_rows.specs.Lines.{is_newline, lines_of}
 use Rattle.trace_rows.specs.Reader.{HasLine, Came, Takes, first_line}
-use Rattle.trace_rows.specs.Trace.{most_bytes}
+use Rattle.trace_rows.specs.Trace.{most_line_bytes}
 use Rattle.trace_rows.proofs.TraceLines.{lines_of-has, lines_of-at_end, lines_of-none, lines_of-front, lines_of-some, before_none, last_split, NoNewline}
 
 pub told_of : (a b : Option (List ℕ)) (bs : List ℕ) (P : List ℕ → List ℕ → Type 0) → Consumes a b bs → ((x y : List ℕ) → x ≡ bs ++ y → P x y) → IfTold a b P
@@ -60,9 +60,9 @@ line_told line w w' ended a b t at_end =
 
 -- a line that is too long stands there
 abbrev pub LongLine : List ℕ → List ℕ → List ℕ → Type 0
-LongLine w x y = (line : List ℕ) × (lines : List (List ℕ)) × (lines_of (w ++ x) ≡ line ∷ lines) × (most_bytes < length line)
+LongLine w x y = (line : List ℕ) × (lines : List (List ℕ)) × (lines_of (w ++ x) ≡ line ∷ lines) × (most_line_bytes < length line)
 
-long_inside : (w bytes came x y : List ℕ) → bytes ≡ w ++ came → x ≡ came ++ y → most_bytes < length (first_line bytes) → LongLine w x y
+long_inside : (w bytes came x y : List ℕ) → bytes ≡ w ++ came → x ≡ came ++ y → most_line_bytes < length (first_line bytes) → LongLine w x y
 long_inside w bytes came x y e h long =
     elim (cases_lt (position_or_len is_newline bytes) (length bytes)) [
       | inl has ↦ (first_line bytes, lines_of (after_first is_newline bytes ++ y), line_inside w bytes came x y e h has, long)
@@ -72,7 +72,7 @@ long_inside w bytes came x y e h long =
           (bytes ++ f.0, f.1, ap lines_of (held_left w bytes came x y e h) ∙ f.2, omega (arith, ap length all, length-append bytes f.0)))
     ]
 
-pub long_told : (w bytes : List ℕ) (a b : Option (List ℕ)) → Came w bytes a b → most_bytes < length (first_line bytes) → IfTold a b (LongLine w)
+pub long_told : (w bytes : List ℕ) (a b : Option (List ℕ)) → Came w bytes a b → most_line_bytes < length (first_line bytes) → IfTold a b (LongLine w)
 long_told w bytes a b c long = told_of a b c.bytes (LongLine w) c.source (λ x y h. long_inside w bytes c.bytes x y c.held h long)
 
 pub end_told : (w bytes : List ℕ) (a b : Option (List ℕ)) → Came w bytes a b → bytes ≡ [] → IsAtEnd b → IfTold a b (λ x y. lines_of (w ++ x) ≡ [])

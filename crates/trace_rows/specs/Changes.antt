@@ -3,7 +3,7 @@ use Rattle.std.specs.Prelude.{ℕ, Bool, true, false, ◌==◌, List, [], ◌∷
 use Rattle.std.specs.List.{before_first, after_first, position}
 use Rattle.std.specs.Option.{option_map, option_and_then}
 use Rattle.std.specs.Str.{bytes_eq}
-use Rattle.trace_rows.specs.Numbers.{number_of}
+use Rattle.trace_rows.specs.Numbers.{word_number}
 
 abbrev pub is_equals : ℕ → Bool
 is_equals b = b == 61
@@ -11,7 +11,7 @@ is_equals b = b == 61
 -- the input that a word names, by its place among these names, and its number
 abbrev pub change_in : List (List ℕ) → List ℕ → Option (ℕ × ℤ)
 change_in names word =
-    option_and_then (λ i. option_map (λ n. (i, n)) (number_of (after_first is_equals word))) (position (bytes_eq (before_first is_equals word)) names)
+    option_and_then (λ i. option_map (λ n. (i, n)) (word_number (after_first is_equals word))) (position (bytes_eq (before_first is_equals word)) names)
 
 -- a row behind these words, each of which changes an input that no word before it names; `named` has those that were named
 abbrev pub changed_row : List (List ℕ) → List Bool → List ℤ → List (List ℕ) → Option (List ℤ)

@@ -2,7 +2,7 @@
 use Rattle.std.specs.Prelude.{◌≡◌, ℕ, ◌<◌, ◌≤◌, Bool, true, false, List, [], length, Result, Ok, Err, slice_range}
 use Rattle.forec_base.specs.declared.outside.Failed.{Failed}
 use Rattle.trace_rows.specs.Reader.{HasLine, first_line}
-use Rattle.trace_rows.specs.Trace.{most_bytes}
+use Rattle.trace_rows.specs.Trace.{most_line_bytes}
 use Rattle.trace_rows.specs.declared.fault.Next.{Next}
 use Rattle.trace_rows.specs.declared.fault.Next.TheVariants as next
 use Rattle.trace_rows.specs.declared.fault.RowFault.{RowFault}
@@ -14,17 +14,17 @@ abbrev pub held : Lines → List ℕ
 held l = slice_range l.bytes.items l.at l.end
 
 -- what a call says that looks for the first line: it came, or what came of it is too long, or there is none, or the source failed
-abbrev pub Finds : List ℕ → Bool → Result Next RowFault → Type 0
-Finds bytes ended (Ok next.Row) = (length (first_line bytes) ≤ most_bytes) × (0 < length bytes) × (ended ≡ false → HasLine bytes)
-Finds bytes ended (Ok next.End) = (bytes ≡ []) × (ended ≡ true)
-Finds bytes ended (Err fault.Long) = most_bytes < length (first_line bytes)
-Finds bytes ended (Err fault.ReadFault) = (HasLine bytes → ⊥) × (ended ≡ false)
-Finds bytes ended (Err fault.Bad) = ⊥
-Finds bytes ended (Err fault.Many) = ⊥
-Finds bytes ended (Err fault.OutOfMemory) = ⊥
+abbrev pub FindsFirstLine : List ℕ → Bool → Result Next RowFault → Type 0
+FindsFirstLine bytes ended (Ok next.Row) = (length (first_line bytes) ≤ most_line_bytes) × (0 < length bytes) × (ended ≡ false → HasLine bytes)
+FindsFirstLine bytes ended (Ok next.End) = (bytes ≡ []) × (ended ≡ true)
+FindsFirstLine bytes ended (Err fault.Long) = most_line_bytes < length (first_line bytes)
+FindsFirstLine bytes ended (Err fault.ReadFault) = (HasLine bytes → ⊥) × (ended ≡ false)
+FindsFirstLine bytes ended (Err fault.Bad) = ⊥
+FindsFirstLine bytes ended (Err fault.Many) = ⊥
+FindsFirstLine bytes ended (Err fault.OutOfMemory) = ⊥
 
 -- what a call says that asks whether a further line begins
-abbrev pub Begins : List ℕ → Bool → Result Bool Failed → Type 0
-Begins bytes ended (Ok true) = 0 < length bytes
-Begins bytes ended (Ok false) = (bytes ≡ []) × (ended ≡ true)
-Begins bytes ended (Err f) = (HasLine bytes → ⊥) × (ended ≡ false)
+abbrev pub BeginsLine : List ℕ → Bool → Result Bool Failed → Type 0
+BeginsLine bytes ended (Ok true) = 0 < length bytes
+BeginsLine bytes ended (Ok false) = (bytes ≡ []) × (ended ≡ true)
+BeginsLine bytes ended (Err f) = (HasLine bytes → ⊥) × (ended ≡ false)

@@ -24,6 +24,6 @@ negative None = None
 negative (Some n) = if nat_le n 2147483648 then Some (neg_ℤ (pos n)) else None
 
 -- the number that a word is, where it is one
-abbrev pub number_of : List ℕ → Option ℤ
-number_of [] = None
-number_of (b ∷ bs) = if b == 45 then negative (magnitude_of bs) else positive (magnitude_of (b ∷ bs))
+abbrev pub word_number : List ℕ → Option ℤ
+word_number [] = None
+word_number (b ∷ bs) = if b == 45 then negative (magnitude_of bs) else positive (magnitude_of (b ∷ bs))

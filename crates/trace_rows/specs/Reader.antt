@@ -48,7 +48,7 @@ pub record Takes (line held_old held_new : List ℕ) (ended : Bool) (left_old le
   pub whole : ended ≡ false → HasLine bytes
 
 -- no whole line was held, and none came
-pub record Waits (held_old held_new : List ℕ) (ended_old ended_new : Bool) (left_old left_new : Option (List ℕ)) : Type 0 where
+pub record LacksLine (held_old held_new : List ℕ) (ended_old ended_new : Bool) (left_old left_new : Option (List ℕ)) : Type 0 where
   pub came : Came held_old held_new left_old left_new
   pub none : HasLine held_new → ⊥
   pub was : ended_old ≡ false
@@ -60,16 +60,16 @@ pub record Waits (held_old held_new : List ℕ) (ended_old ended_new : Bool) (le
 abbrev pub StartTakes : List (List ℕ) → Option (List ℕ) → Option (List ℕ) → Result Reader RowFault → Type 0
 StartTakes inputs left_old left_new (Ok r) =
     (header : List ℕ) × (header_at inputs header ≡ Ok r.form) × Takes header [] r.held r.ended left_old left_new
-StartTakes inputs left_old left_new (Err fault.ReadFault) = (held : List ℕ) × Waits [] held false false left_old left_new
+StartTakes inputs left_old left_new (Err fault.ReadFault) = (held : List ℕ) × LacksLine [] held false false left_old left_new
 StartTakes inputs left_old left_new (Err f) = Unit {0}
 
 -- the trace from where a reader stands, of the bytes that are left
-abbrev pub ahead : Reader → List ℕ → Trace
-ahead r left = rows_from r.limit r.form (r.given + 1) (lines_of (r.held ++ left))
+abbrev pub trace_ahead : Reader → List ℕ → Trace
+trace_ahead r left = rows_from r.limit r.form (r.given + 1) (lines_of (r.held ++ left))
 
 -- what the first call says of the trace
 abbrev pub StartSays : List (List ℕ) → ℕ → Result Reader RowFault → List ℕ → List ℕ → Type 0
-StartSays inputs limit (Ok r) before now = trace_of inputs limit before ≡ ahead r now
+StartSays inputs limit (Ok r) before now = trace_of inputs limit before ≡ trace_ahead r now
 StartSays inputs limit (Err fault.Bad) before now = trace_of inputs limit before ≡ stop (Some fault.Bad) 0
 StartSays inputs limit (Err fault.Long) before now = trace_of inputs limit before ≡ stop (Some fault.Long) 0
 StartSays inputs limit (Err fault.Many) before now = ⊥
@@ -83,16 +83,16 @@ abbrev pub NextTakes : Reader → Reader → Row → Option (List ℕ) → Optio
 NextTakes old new row left_old left_new (Ok next.Row) =
     (line : List ℕ) × (row_at old.limit old.form (old.given + 1) line ≡ Ok row) × Takes line old.held new.held new.ended left_old left_new
 NextTakes old new row left_old left_new (Ok next.End) = Unit {0}
-NextTakes old new row left_old left_new (Err fault.ReadFault) = Waits old.held new.held old.ended new.ended left_old left_new
+NextTakes old new row left_old left_new (Err fault.ReadFault) = LacksLine old.held new.held old.ended new.ended left_old left_new
 NextTakes old new row left_old left_new (Err f) = Unit {0}
 
 -- what a call that asks for the next row says of the trace
 abbrev pub NextSays : Reader → Reader → Row → Result Next RowFault → List ℕ → List ℕ → Type 0
-NextSays old new row (Ok next.Row) before now = ahead old before ≡ onto (Ok row) (old.given + 1) (ahead new now)
-NextSays old new row (Ok next.End) before now = ahead old before ≡ stop None (old.given + 1)
-NextSays old new row (Err fault.Bad) before now = ahead old before ≡ stop (Some fault.Bad) (old.given + 1)
-NextSays old new row (Err fault.Long) before now = ahead old before ≡ stop (Some fault.Long) (old.given + 1)
-NextSays old new row (Err fault.Many) before now = ahead old before ≡ stop (Some fault.Many) (old.given + 1)
+NextSays old new row (Ok next.Row) before now = trace_ahead old before ≡ onto (Ok row) (old.given + 1) (trace_ahead new now)
+NextSays old new row (Ok next.End) before now = trace_ahead old before ≡ stop None (old.given + 1)
+NextSays old new row (Err fault.Bad) before now = trace_ahead old before ≡ stop (Some fault.Bad) (old.given + 1)
+NextSays old new row (Err fault.Long) before now = trace_ahead old before ≡ stop (Some fault.Long) (old.given + 1)
+NextSays old new row (Err fault.Many) before now = trace_ahead old before ≡ stop (Some fault.Many) (old.given + 1)
 NextSays old new row (Err fault.ReadFault) before now = Unit {0}
 NextSays old new row (Err fault.OutOfMemory) before now = ⊥
 

@@ -8,7 +8,7 @@ use Rattle.trace_rows.specs.declared.fault.Next.TheVariants as next
 use Rattle.trace_rows.specs.declared.fault.RowFault.{RowFault}
 use Rattle.trace_rows.specs.Lines.{is_newline}
 use Rattle.trace_rows.specs.Reader.{Reader, HasLine, first_line}
-use Rattle.trace_rows.specs.Trace.{Row, Form, header_at, most_bytes, row_at}
+use Rattle.trace_rows.specs.Trace.{Row, Form, header_at, most_line_bytes, row_at}
 
 -- ---- reads, by what a source shows: what is left, how often it has failed, and whether its last call failed
 
@@ -19,19 +19,19 @@ pub record IsRead {S : Type 0} (left : S → Option (List ℕ)) (faults : S → 
   pub failed : down new ≡ true → Rose (faults old) (faults new) × (piece ≡ [])
 
 -- reads led from one source to another and gave these bytes; each was asked for where `May` holds of the bytes before it
-pub data Reads {S : Type 0} (left : S → Option (List ℕ)) (faults : S → ℕ) (down : S → Bool) (May : List ℕ → Type 0) (old : S) : List ℕ → S → Type 0 where
-  none : Reads left faults down May old [] old
-  more : {given piece : List ℕ} {s new : S} → Reads left faults down May old given s → May given → IsRead left faults down s new piece → Reads left faults down May old (given ++ piece) new
+pub data ReadsBytes {S : Type 0} (left : S → Option (List ℕ)) (faults : S → ℕ) (down : S → Bool) (May : List ℕ → Type 0) (old : S) : List ℕ → S → Type 0 where
+  none : ReadsBytes left faults down May old [] old
+  more : {given piece : List ℕ} {s new : S} → ReadsBytes left faults down May old given s → May given → IsRead left faults down s new piece → ReadsBytes left faults down May old (given ++ piece) new
 
 -- no whole line is held, nor one that is too long already, and the source has not told its end
 abbrev pub Lacks : List ℕ → Bool → Type 0
-Lacks held ended = (HasLine held → ⊥) × (ended ≡ false) × (length held ≤ most_bytes)
+Lacks held ended = (HasLine held → ⊥) × (ended ≡ false) × (length held ≤ most_line_bytes)
 
 -- bytes came after those that were held, by reads that were each asked for where a line was lacking
 pub record Gathers {S : Type 0} (left : S → Option (List ℕ)) (faults : S → ℕ) (down : S → Bool) (held : List ℕ) (ended : Bool) (bytes : List ℕ) (old new : S) : Type 0 where
   pub given : List ℕ
   pub behind : bytes ≡ held ++ given
-  pub reads : Reads left faults down (λ came. Lacks (held ++ came) ended) old given new
+  pub reads : ReadsBytes left faults down (λ came. Lacks (held ++ came) ended) old given new
 
 -- ---- what was taken of the bytes that were held and came
 

@@ -8,9 +8,9 @@ use Rattle.trace_rows.specs.declared.lines.Lines.{Lines}
 use Rattle.trace_rows.specs.Calls.{IfTold}
 use Rattle.trace_rows.specs.Held.{held}
 use Rattle.trace_rows.specs.Lines.{lines_of}
-use Rattle.trace_rows.specs.Reader.{HasLine, Takes, Waits, first_line}
+use Rattle.trace_rows.specs.Reader.{HasLine, Takes, LacksLine, first_line}
 use Rattle.trace_rows.specs.SourceReads.{TakesHead, Reading}
-use Rattle.trace_rows.specs.Trace.{first_form, most_bytes, header_at, rows_of_lines, stop}
+use Rattle.trace_rows.specs.Trace.{first_form, most_line_bytes, header_at, rows_of_lines, stop}
 
 -- these lines have no header, whatever the most rows
 abbrev pub NoHeader : List (List ℕ) → RowFault → List (List ℕ) → Type 0
@@ -20,7 +20,7 @@ NoHeader inputs f lines = (limit : ℕ) → rows_of_lines inputs limit lines ≡
 abbrev pub TakesHeader : List (List ℕ) → List ℕ → List ℕ → List ℕ → Bool → Bool → Option (List ℕ) → Option (List ℕ) → Result Bool RowFault → Type 0
 TakesHeader inputs places held_old held_new was is left_old left_new (Ok changes) =
     (header : List ℕ) × (header_at inputs header ≡ Ok (first_form inputs places changes)) × Takes header held_old held_new is left_old left_new
-TakesHeader inputs places held_old held_new was is left_old left_new (Err fault.ReadFault) = Waits held_old held_new was is left_old left_new
+TakesHeader inputs places held_old held_new was is left_old left_new (Err fault.ReadFault) = LacksLine held_old held_new was is left_old left_new
 TakesHeader inputs places held_old held_new was is left_old left_new (Err fault.OutOfMemory) = ⊥
 TakesHeader inputs places held_old held_new was is left_old left_new (Err fault.Many) = ⊥
 TakesHeader inputs places held_old held_new was is left_old left_new (Err f) = IfTold left_old left_new (λ x y. NoHeader inputs f (lines_of (held_old ++ x)))
@@ -43,10 +43,10 @@ LinesReadHeader left faults down inputs places old new source_old source_new r =
 -- what a call says that looks for the line after so many rows, of at most `limit`: it is there, or nothing more is, or what is in its place
 abbrev pub FindsNext : ℕ → ℕ → List ℕ → Bool → Result Next RowFault → Type 0
 FindsNext limit given held ended (Ok next.Row) =
-    (given < limit) × (length (first_line held) ≤ most_bytes) × (0 < length held) × (ended ≡ false → HasLine held)
+    (given < limit) × (length (first_line held) ≤ most_line_bytes) × (0 < length held) × (ended ≡ false → HasLine held)
 FindsNext limit given held ended (Ok next.End) = (held ≡ []) × (ended ≡ true)
 FindsNext limit given held ended (Err fault.Many) = (limit ≤ given) × (0 < length held)
-FindsNext limit given held ended (Err fault.Long) = (given < limit) × (most_bytes < length (first_line held))
+FindsNext limit given held ended (Err fault.Long) = (given < limit) × (most_line_bytes < length (first_line held))
 FindsNext limit given held ended (Err fault.ReadFault) = (HasLine held → ⊥) × (ended ≡ false)
 FindsNext limit given held ended (Err fault.Bad) = ⊥
 FindsNext limit given held ended (Err fault.OutOfMemory) = ⊥

@@ -11,24 +11,24 @@ use Rattle.trace_rows.specs.declared.fault.RowFault.{RowFault}
 use Rattle.trace_rows.specs.declared.fault.RowFault.TheVariants as fault
 use Rattle.trace_rows.specs.Changes.{row_behind}
 use Rattle.trace_rows.specs.Lines.{lines_of}
-use Rattle.trace_rows.specs.Numbers.{number_of}
-use Rattle.trace_rows.specs.Words.{words_of}
+use Rattle.trace_rows.specs.Numbers.{word_number}
+use Rattle.trace_rows.specs.Words.{line_words}
 
 -- the values of the inputs in a tick, in order of declaration
 abbrev pub Row : Type 0
 Row = List ℤ
 
 -- where a trace stops, and why: at its end, or at a line that is no header or row
-pub record End : Type 0 where
+pub record TraceEnd : Type 0 where
   pub cause : Option RowFault
   pub line : ℕ
 
 pub record Trace : Type 0 where
   pub rows : List Row
-  pub end : End
+  pub end : TraceEnd
 
-abbrev pub most_bytes : ℕ
-most_bytes = MAX_LINE_BYTES
+abbrev pub most_line_bytes : ℕ
+most_line_bytes = MAX_LINE_BYTES
 
 -- ---- the header
 
@@ -68,14 +68,14 @@ or_bad None = Err fault.Bad
 
 -- what stands in the header: how the rows are read
 abbrev pub header_at : List (List ℕ) → List ℕ → Result Form RowFault
-header_at inputs line = if nat_lt most_bytes (length line) then Err fault.Long else or_bad (form_of inputs (words_of line))
+header_at inputs line = if nat_lt most_line_bytes (length line) then Err fault.Long else or_bad (form_of inputs (line_words line))
 
 -- ---- rows
 
 -- the numbers that words are, where each is one
-abbrev pub numbers_of : List (List ℕ) → Option (List ℤ)
-numbers_of [] = Some []
-numbers_of (word ∷ words) = option_and_then (λ n. option_map (λ ns. n ∷ ns) (numbers_of words)) (number_of word)
+abbrev pub word_numbers : List (List ℕ) → Option (List ℤ)
+word_numbers [] = Some []
+word_numbers (word ∷ words) = option_and_then (λ n. option_map (λ ns. n ∷ ns) (word_numbers words)) (word_number word)
 
 -- the numbers at these places
 abbrev pub arranged : List ℕ → List ℤ → Row
@@ -83,7 +83,7 @@ arranged places numbers = map (λ place. slice_index_or numbers place (pos 0)) p
 
 -- the same, where they are so many
 abbrev pub numbers_in : ℕ → List (List ℕ) → Option (List ℤ)
-numbers_in count words = if length words == count then numbers_of words else None
+numbers_in count words = if length words == count then word_numbers words else None
 
 -- the row that words are: as many numbers as there are inputs, or changes of the last row
 abbrev pub row_of : Form → List (List ℕ) → Option Row
@@ -99,7 +99,7 @@ row_width (Changes names last) = length last
 abbrev pub row_at : ℕ → Form → ℕ → List ℕ → Result Row RowFault
 row_at limit form n line =
     if nat_lt limit n then Err fault.Many
-    else (if nat_lt most_bytes (length line) then Err fault.Long else or_bad (row_of form (words_of line)))
+    else (if nat_lt most_line_bytes (length line) then Err fault.Long else or_bad (row_of form (line_words line)))
 
 -- how the row after this one is read
 abbrev pub next_form : Form → Row → Form

@@ -9,8 +9,8 @@ abbrev pub is_some_text : List ℕ → Bool
 is_some_text [] = false
 is_some_text (b ∷ bs) = true
 
-unfoldable pub words_of : List ℕ → List (List ℕ)
-words_of line = filter is_some_text (slice_split is_blank line)
+unfoldable pub line_words : List ℕ → List (List ℕ)
+line_words line = filter is_some_text (slice_split is_blank line)
 
 -- it doesn't begin with a blank
 abbrev pub BeginsNoBlank : List ℕ → Type 0

@@ -2,7 +2,7 @@
 ghost use Rattle.std.specs.Prelude.{◌≡◌, ◌<◌, ◌≤◌, false, length, take, Some, None, IsTrue, IfSome, IfNone};
 ghost use Rattle.std.specs.List.{position_or_len};
 ghost use Rattle.trace_rows.specs.Changes.{is_equals, change_in, row_behind};
-ghost use Rattle.trace_rows.specs.Words.{is_blank, words_of};
+ghost use Rattle.trace_rows.specs.Words.{is_blank, line_words};
 
 use crate::names::{Names, next_slot};
 use crate::numbers::number_at;
@@ -74,8 +74,8 @@ fn change_at(text: &[u8], names: &Names, next: usize) -> Option<Change>
 pub fn read_changes(line: &[u8], names: &Names, values: &mut [i32], named: &mut [bool]) -> bool
     requires values { length values.old ≡ length names.now.texts }
     requires named { length named.old ≡ length names.now.texts }
-    ensures yes { IsTrue result → row_behind names.now.texts values.old (words_of line.now) ≡ Some values.new }
-    ensures no { result ≡ false → row_behind names.now.texts values.old (words_of line.now) ≡ None }
+    ensures yes { IsTrue result → row_behind names.now.texts values.old (line_words line.now) ≡ Some values.new }
+    ensures no { result ≡ false → row_behind names.now.texts values.old (line_words line.now) ≡ None }
 {
     named.fill(false);
     let mut rest = skip_blanks(line);

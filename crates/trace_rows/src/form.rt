@@ -1,7 +1,7 @@
 //! How the rows of a trace are read.
 ghost use Rattle.std.specs.Prelude.{◌≡◌, ◌<◌, true, false, length, Some, None, IsTrue};
 ghost use Rattle.std.specs.List.{All};
-ghost use Rattle.trace_rows.specs.Words.{words_of};
+ghost use Rattle.trace_rows.specs.Words.{line_words};
 ghost use Rattle.trace_rows.specs.Trace.{next_form, row_of, row_width};
 
 use crate::changes::read_changes;
@@ -29,9 +29,9 @@ impl RowForm {
     /// Reads the words of a line as a row, and keeps what the next one needs of it. Where it is none the row stays.
     pub fn read(&mut self, line: &[u8], row: &mut [i32]) -> bool
         requires { length row.old ≡ row_width (shown_form self.old) }
-        ensures yes { IsTrue result → row_of (shown_form self.old) (words_of line.now) ≡ Some row.new }
+        ensures yes { IsTrue result → row_of (shown_form self.old) (line_words line.now) ≡ Some row.new }
         ensures next { IsTrue result → shown_form self.new ≡ next_form (shown_form self.old) row.new }
-        ensures no { result ≡ false → row_of (shown_form self.old) (words_of line.now) ≡ None }
+        ensures no { result ≡ false → row_of (shown_form self.old) (line_words line.now) ≡ None }
         ensures stays { result ≡ false → row.new ≡ row.old }
     {
         if self.changes {

@@ -2,14 +2,14 @@
 ghost use Rattle.std.specs.Prelude.{◌≡◌, true, false, length, count_by, IsTrue, IfSome, IfNone, Some, None};
 ghost use Rattle.std.specs.List.{position_or_len};
 ghost use Rattle.std.specs.Str.{bytes_eq};
-ghost use Rattle.trace_rows.specs.Words.{words_of};
+ghost use Rattle.trace_rows.specs.Words.{line_words};
 ghost use Rattle.trace_rows.specs.Trace.{first_form, form_of, is_mark, names_each, places_of};
 
 use crate::words::next_word;
 use forec_base::Labels;
 
 fn count_words(line: &[u8]) -> usize
-    ensures { result ≡ length (words_of line.now) }
+    ensures { result ≡ length (line_words line.now) }
 {
     let mut rest = line;
     let mut count = 0;
@@ -22,7 +22,7 @@ fn count_words(line: &[u8]) -> usize
 
 /// How often a name stands among the words of a line.
 fn count_name(line: &[u8], name: &[u8]) -> usize
-    ensures { result ≡ count_by (bytes_eq name.now) (words_of line.now) }
+    ensures { result ≡ count_by (bytes_eq name.now) (line_words line.now) }
 {
     let mut rest = line;
     let mut count = 0;
@@ -37,7 +37,7 @@ fn count_name(line: &[u8], name: &[u8]) -> usize
 
 /// Where a name stands first among the words of a line, or how many words there are.
 fn first_place(line: &[u8], name: &[u8]) -> usize
-    ensures { result ≡ position_or_len (bytes_eq name.now) (words_of line.now) }
+    ensures { result ≡ position_or_len (bytes_eq name.now) (line_words line.now) }
 {
     let mut rest = line;
     let mut place = 0;
@@ -54,9 +54,9 @@ fn first_place(line: &[u8], name: &[u8]) -> usize
 /// Finds the place of each of these inputs in a header. Where it doesn't have each once, some places may be written.
 fn read_header(line: &[u8], inputs: &Labels, places: &mut [usize]) -> bool
     requires { length places.old ≡ length inputs.now }
-    ensures yes { IsTrue result → (names_each inputs.now (words_of line.now) ≡ true) }
-    ensures places { IsTrue result → places.new ≡ places_of inputs.now (words_of line.now) }
-    ensures no { result ≡ false → (names_each inputs.now (words_of line.now) ≡ false) }
+    ensures yes { IsTrue result → (names_each inputs.now (line_words line.now) ≡ true) }
+    ensures places { IsTrue result → places.new ≡ places_of inputs.now (line_words line.now) }
+    ensures no { result ≡ false → (names_each inputs.now (line_words line.now) ≡ false) }
 {
     if count_words(line) != inputs.len() as usize {
         return false;
@@ -73,7 +73,7 @@ fn read_header(line: &[u8], inputs: &Labels, places: &mut [usize]) -> bool
 
 /// Whether `#2` is the only word of a line.
 fn marked(line: &[u8]) -> bool
-    ensures { result ≡ is_mark (words_of line.now) }
+    ensures { result ≡ is_mark (line_words line.now) }
 {
     let Some((word, after)) = next_word(line) else {
         return false;
@@ -89,9 +89,9 @@ fn marked(line: &[u8]) -> bool
 /// some places may be written.
 pub fn read_form(line: &[u8], inputs: &Labels, places: &mut [usize]) -> Option<bool>
     requires { length places.old ≡ length inputs.now }
-    ensures some { IfSome result (λ changes. form_of inputs.now (words_of line.now)
+    ensures some { IfSome result (λ changes. form_of inputs.now (line_words line.now)
         ≡ Some (first_form inputs.now places.new changes)) }
-    ensures none { IfNone result (form_of inputs.now (words_of line.now) ≡ None) }
+    ensures none { IfNone result (form_of inputs.now (line_words line.now) ≡ None) }
 {
     if marked(line) {
         return Some(true);

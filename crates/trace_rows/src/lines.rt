@@ -37,7 +37,7 @@ pub struct Lines {
 }
 
 impl Lines {
-    ghost use Rattle.trace_rows.specs.Held.{held, Finds, Begins};
+    ghost use Rattle.trace_rows.specs.Held.{held, FindsFirstLine, BeginsLine};
 
     /// Nothing is read yet. It takes all the memory that it ever needs.
     pub fn new(alloc: Global) -> Result<Lines, OutOfMemory>
@@ -101,7 +101,7 @@ impl Lines {
 
     /// What the bytes that are held tell of the first line, if no further ones are needed.
     fn found(&self) -> Option<Result<Next, RowFault>>
-        ensures some { IfSome result (λ f. Finds (held self.now) self.now.ended f) }
+        ensures some { IfSome result (λ f. FindsFirstLine (held self.now) self.now.ended f) }
         ensures told { IfSome result (λ f. f ≢ Err RowFault.ReadFault) }
         ensures none { IfNone result ((HasLine (held self.now) → ⊥) × (self.now.ended ≡ false) × (length (held self.now) ≤ 8192)) }
     {
@@ -128,7 +128,7 @@ impl Lines {
         requires { self.old.ended ≡ true → IsAtEnd (S.left source.old) }
         ensures came { Came (held self.old) (held self.new) (S.left source.old) (S.left source.new) }
         ensures reads { Gathers S.left S.faults S.down (held self.old) self.old.ended (held self.new) source.old source.new }
-        ensures finds { Finds (held self.new) self.new.ended result }
+        ensures finds { FindsFirstLine (held self.new) self.new.ended result }
         ensures ended { self.new.ended ≡ true → IsAtEnd (S.left source.new) }
         ensures stays { self.new.ended ≡ false → self.old.ended ≡ false }
         ensures asks { HasLine (held self.old) → source.new ≡ source.old }
@@ -151,7 +151,7 @@ impl Lines {
         requires { self.old.ended ≡ true → IsAtEnd (S.left source.old) }
         ensures came { Came (held self.old) (held self.new) (S.left source.old) (S.left source.new) }
         ensures reads { Gathers S.left S.faults S.down (held self.old) self.old.ended (held self.new) source.old source.new }
-        ensures begins { Begins (held self.new) self.new.ended result }
+        ensures begins { BeginsLine (held self.new) self.new.ended result }
         ensures ended { self.new.ended ≡ true → IsAtEnd (S.left source.new) }
         ensures stays { self.new.ended ≡ false → self.old.ended ≡ false }
         ensures asks { HasLine (held self.old) → source.new ≡ source.old }

@@ -4,7 +4,7 @@ ghost use Rattle.std.specs.Option.{option_map};
 ghost use Rattle.std.specs.List.{prefix_len, position_or_len};
 ghost use Rattle.std.specs.Char.{is_ascii_digit};
 ghost use Rattle.trace_rows.specs.Words.{is_blank};
-ghost use Rattle.trace_rows.specs.Numbers.{digits_value, magnitude_of, positive, negative, number_of};
+ghost use Rattle.trace_rows.specs.Numbers.{digits_value, magnitude_of, positive, negative, word_number};
 
 use crate::words::blank;
 
@@ -118,8 +118,8 @@ fn negative_at(text: &[u8]) -> Option<Number>
 
 /// The number that is the first word of a text, if it is one. The text begins with no blank.
 pub fn number_at(text: &[u8]) -> Option<Number>
-    ensures some { IfSome result (λ n. (n.len ≡ position_or_len is_blank text.now) × (number_of (take n.len text.now) ≡ Some n.value)) }
-    ensures none { IfNone result (number_of (take (position_or_len is_blank text.now) text.now) ≡ None) }
+    ensures some { IfSome result (λ n. (n.len ≡ position_or_len is_blank text.now) × (word_number (take n.len text.now) ≡ Some n.value)) }
+    ensures none { IfNone result (word_number (take (position_or_len is_blank text.now) text.now) ≡ None) }
 {
     match text {
         [45, rest @ ..] => {

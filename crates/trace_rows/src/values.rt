@@ -1,7 +1,7 @@
 //! The values of a row.
 ghost use Rattle.std.specs.Prelude.{◌≡◌, ◌<◌, ◌≤◌, true, false, length, Some, None, IsTrue};
 ghost use Rattle.std.specs.List.{All};
-ghost use Rattle.trace_rows.specs.Words.{words_of};
+ghost use Rattle.trace_rows.specs.Words.{line_words};
 ghost use Rattle.trace_rows.specs.Trace.{numbers_in, arranged};
 
 use crate::numbers::number_at;
@@ -10,8 +10,8 @@ use crate::words::skip_blanks;
 /// Reads the numbers of a line, where its words are as many numbers as there are values. Else some values may be
 /// written.
 pub fn read_numbers(line: &[u8], values: &mut [i32]) -> bool
-    ensures yes { IsTrue result → numbers_in (length values.old) (words_of line.now) ≡ Some values.new }
-    ensures no { result ≡ false → numbers_in (length values.old) (words_of line.now) ≡ None }
+    ensures yes { IsTrue result → numbers_in (length values.old) (line_words line.now) ≡ Some values.new }
+    ensures no { result ≡ false → numbers_in (length values.old) (line_words line.now) ≡ None }
 {
     let mut rest = skip_blanks(line);
     let mut count = 0;

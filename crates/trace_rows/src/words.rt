@@ -1,7 +1,7 @@
 //! The words of a line, one by one.
 ghost use Rattle.std.specs.Prelude.{◌≡◌, ◌≤◌, ◌<◌, ◌∷◌, [], length, IfSome, IfNone};
 ghost use Rattle.std.specs.List.{position, position_or_len};
-ghost use Rattle.trace_rows.specs.Words.{is_blank, words_of, BeginsNoBlank};
+ghost use Rattle.trace_rows.specs.Words.{is_blank, line_words, BeginsNoBlank};
 
 /// Whether a byte stands between words.
 pub fn blank(b: u8) -> bool
@@ -12,7 +12,7 @@ pub fn blank(b: u8) -> bool
 
 /// A line from its first byte that is no blank.
 pub fn skip_blanks(line: &[u8]) -> &[u8]
-    ensures words { words_of result.now ≡ words_of line.now }
+    ensures words { line_words result.now ≡ line_words line.now }
     ensures shorter { length result.now ≤ length line.now }
     ensures begins { BeginsNoBlank result.now }
 {
@@ -47,8 +47,8 @@ fn word_end(line: &[u8]) -> usize
 /// The first word of a line that begins with no blank, and what stands after it.
 fn first_word(line: &[u8]) -> Option<(&[u8], &[u8])>
     requires { BeginsNoBlank line.now }
-    ensures some { IfSome result (λ r. (words_of line.now ≡ r.0.now ∷ words_of r.1.now) × (length r.1.now < length line.now)) }
-    ensures none { IfNone result (words_of line.now ≡ []) }
+    ensures some { IfSome result (λ r. (line_words line.now ≡ r.0.now ∷ line_words r.1.now) × (length r.1.now < length line.now)) }
+    ensures none { IfNone result (line_words line.now ≡ []) }
 {
     if line.is_empty() {
         return None;
@@ -61,8 +61,8 @@ fn first_word(line: &[u8]) -> Option<(&[u8], &[u8])>
 
 /// The first word of a line, and what stands after it.
 pub fn next_word(line: &[u8]) -> Option<(&[u8], &[u8])>
-    ensures some { IfSome result (λ r. (words_of line.now ≡ r.0.now ∷ words_of r.1.now) × (length r.1.now < length line.now)) }
-    ensures none { IfNone result (words_of line.now ≡ []) }
+    ensures some { IfSome result (λ r. (line_words line.now ≡ r.0.now ∷ line_words r.1.now) × (length r.1.now < length line.now)) }
+    ensures none { IfNone result (line_words line.now ≡ []) }
 {
     first_word(skip_blanks(line))
 }

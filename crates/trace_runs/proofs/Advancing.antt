@@ -5,18 +5,18 @@ use Rattle.forec_kernel.specs.declared.shape.Outcome.{Outcome}
 use Rattle.forec_kernel.specs.declared.shape.Outcome.TheVariants as outcome
 use Rattle.forec_kernel.specs.Composed.{TickInput}
 use Rattle.forec_kernel.specs.Shapes.{PlainKernel}
-use Rattle.forec_kernel.specs.Ticks.{State, Tick, tick, goes_on, run_from}
+use Rattle.forec_kernel.specs.Ticks.{TickState, Tick, tick, goes_on, run_from}
 use Rattle.trace_rows.specs.Report.{rows_words, row_words}
-use Rattle.trace_rows.specs.Trace.{Row, Form, End, Trace, next_form, onto, row_at}
+use Rattle.trace_rows.specs.Trace.{Row, Form, TraceEnd, Trace, next_form, onto, row_at}
 use Rattle.trace_rows.specs.declared.fault.RowFault.{RowFault}
 use Rattle.trace_runs.specs.Formats.{before_words, after_words, last_written, format_after}
 use Rattle.trace_runs.specs.declared.format.Format.{Format}
 use Rattle.trace_runs.specs.declared.format.Format.TheVariants as format
-use Rattle.trace_runs.specs.Report.{Report, Pace, tick_lines, lines_from, last_outcome, end_of_trace, ending, behind_bytes, report_from, turns_from, with_row, printed_before, advance}
+use Rattle.trace_runs.specs.Report.{Report, Pace, tick_lines, lines_from, last_outcome, end_of_trace, ending, behind_bytes, report_from, turns_from, pace_with_row, printed_before, advance}
 use Rattle.trace_runs.specs.declared.status.Status.TheVariants as status
 
 -- a row at which the program goes on
-pub record PausesAtRow (limit : ℕ) (k : PlainKernel) (budget : ℕ) (form : Form) (s : State) (n : ℕ) (line : List ℕ) (row : Row) : Type 0 where
+pub record PausesAtRow (limit : ℕ) (k : PlainKernel) (budget : ℕ) (form : Form) (s : TickState) (n : ℕ) (line : List ℕ) (row : Row) : Type 0 where
   pub row_is : row_at limit form n line ≡ Ok row
   pub on : goes_on (tick k budget s row).outcome ≡ true
 
@@ -30,26 +30,26 @@ last_on : (t : Tick) (ts : List Tick) → goes_on t.outcome ≡ true → last_ou
 last_on t [] h = paused t.outcome h
 last_on t (u ∷ us) h = refl
 
-pub run_on : (k : PlainKernel) (budget : ℕ) (s : State) (row : Row) (rows : List Row) → goes_on (tick k budget s row).outcome ≡ true →
+pub run_on : (k : PlainKernel) (budget : ℕ) (s : TickState) (row : Row) (rows : List Row) → goes_on (tick k budget s row).outcome ≡ true →
     run_from k budget s (row ∷ rows) ≡ tick k budget s row ∷ run_from k budget (tick k budget s row).state rows
 run_on k budget s row rows h =
     let t = tick k budget s row in
     ap (λ (b : Bool). elim b [ true ↦ t ∷ run_from k budget t.state rows | false ↦ t ∷ [] ]) h
 
-pub run_stops : (k : PlainKernel) (budget : ℕ) (s : State) (row : Row) (rows : List Row) → goes_on (tick k budget s row).outcome ≡ false →
+pub run_stops : (k : PlainKernel) (budget : ℕ) (s : TickState) (row : Row) (rows : List Row) → goes_on (tick k budget s row).outcome ≡ false →
     run_from k budget s (row ∷ rows) ≡ tick k budget s row ∷ []
 run_stops k budget s row rows h =
     let t = tick k budget s row in
     ap (λ (b : Bool). elim b [ true ↦ t ∷ run_from k budget t.state rows | false ↦ t ∷ [] ]) h
 
 -- the ticks over a row and those after it
-pub turns_on : (k : PlainKernel) (budget : ℕ) (s : State) (row : Row) (rows : List Row) → goes_on (tick k budget s row).outcome ≡ true →
+pub turns_on : (k : PlainKernel) (budget : ℕ) (s : TickState) (row : Row) (rows : List Row) → goes_on (tick k budget s row).outcome ≡ true →
     turns_from k budget s (row ∷ rows) ≡ record { row = row; budget = budget } ∷ turns_from k budget (tick k budget s row).state rows
 turns_on k budget s row rows h =
     let turn : TickInput = record { row = row; budget = budget } in
     ap (λ (b : Bool). turn ∷ (if b then turns_from k budget (tick k budget s row).state rows else [])) h
 
-pub turns_stop : (k : PlainKernel) (budget : ℕ) (s : State) (row : Row) (rows : List Row) → goes_on (tick k budget s row).outcome ≡ false →
+pub turns_stop : (k : PlainKernel) (budget : ℕ) (s : TickState) (row : Row) (rows : List Row) → goes_on (tick k budget s row).outcome ≡ false →
     turns_from k budget s (row ∷ rows) ≡ record { row = row; budget = budget } ∷ []
 turns_stop k budget s row rows h =
     let turn : TickInput = record { row = row; budget = budget } in
@@ -64,7 +64,7 @@ end_alike : (how : Format) (values : List ℤ) (cause : Option RowFault) (n : �
 end_alike how values None n = ap (λ (bs : List ℕ). record { bytes = bs; status = status.Done }) (last_alike how values (rows_words (n - 1)))
 end_alike how values (Some f) n = ap (λ (bs : List ℕ). record { bytes = bs; status = status.Trace }) (last_alike how values (row_words n f))
 
-ending_alike : (how : Format) (values : List ℤ) (o : Outcome) (end : End) → ending how o end ≡ ending (format_after how values) o end
+ending_alike : (how : Format) (values : List ℤ) (o : Outcome) (end : TraceEnd) → ending how o end ≡ ending (format_after how values) o end
 ending_alike how values outcome.Paused end = end_alike how values end.cause end.line
 ending_alike how values outcome.Ended end = refl
 ending_alike how values (outcome.Trapped place trap) end = refl
@@ -82,7 +82,7 @@ ticks_on how budget n t ts trace h =
     ∙ ap (λ (bs : List ℕ). record { bytes = bs; status = e.status }) (append_assoc (tick_lines how budget n t) (lines_from later budget (n + 1) ts) e.bytes)
 
 -- one tick more, of a row and those after it
-pub report_step : (how : Format) (k : PlainKernel) (budget : ℕ) (s : State) (n m : ℕ) (row : Row) (rest : Trace) → goes_on (tick k budget s row).outcome ≡ true →
+pub report_step : (how : Format) (k : PlainKernel) (budget : ℕ) (s : TickState) (n m : ℕ) (row : Row) (rest : Trace) → goes_on (tick k budget s row).outcome ≡ true →
     report_from how k budget s n (onto (Ok row) m rest)
     ≡ (let t = tick k budget s row in behind_bytes (tick_lines how budget n t) (report_from (format_after how t.outputs) k budget t.state (n + 1) rest))
 report_step how k budget s n m row rest h =
@@ -90,7 +90,7 @@ report_step how k budget s n m row rest h =
     ap (λ ts. behind_bytes (lines_from how budget n ts) (ending how (last_outcome ts) rest.end)) (run_on k budget s row rest.rows h)
     ∙ ticks_on how budget n t (run_from k budget t.state rest.rows) rest h
 
-pub advance_step : (limit : ℕ) (how : Format) (k : PlainKernel) (budget : ℕ) (form : Form) (s : State) (n : ℕ) (line : List ℕ) (lines : List (List ℕ)) (row : Row) →
+pub advance_step : (limit : ℕ) (how : Format) (k : PlainKernel) (budget : ℕ) (form : Form) (s : TickState) (n : ℕ) (line : List ℕ) (lines : List (List ℕ)) (row : Row) →
     PausesAtRow limit k budget form s n line row →
     advance limit how k budget form s n (line ∷ lines)
     ≡ (let t = tick k budget s row in
@@ -98,7 +98,7 @@ pub advance_step : (limit : ℕ) (how : Format) (k : PlainKernel) (budget : ℕ)
 advance_step limit how k budget form s n line lines row h = rw (h.row_is, h.on) refl
 
 -- what an advance over a line and those after it says
-pub record Went (limit : ℕ) (how : Format) (k : PlainKernel) (budget : ℕ) (form : Form) (s : State) (n : ℕ) (line : List ℕ) (lines : List (List ℕ)) (p : Pace) : Type 0 where
+pub record Went (limit : ℕ) (how : Format) (k : PlainKernel) (budget : ℕ) (form : Form) (s : TickState) (n : ℕ) (line : List ℕ) (lines : List (List ℕ)) (p : Pace) : Type 0 where
   pub row : Row
   pub goes : PausesAtRow limit k budget form s n line row
   pub rest : Pace
@@ -109,7 +109,7 @@ some_of : {A B : Type 0} (f : A → B) (o : Option A) (y : B) → option_map f o
 some_of f None y e = absurd cc
 some_of f (Some x) y e = (x, refl, cc)
 
-with_row_some : (r : Result Row RowFault) (f : Row → Option Pace) (y : Pace) → with_row r f ≡ Some y → (row : Row) × (r ≡ Ok row) × (f row ≡ Some y)
+with_row_some : (r : Result Row RowFault) (f : Row → Option Pace) (y : Pace) → pace_with_row r f ≡ Some y → (row : Row) × (r ≡ Ok row) × (f row ≡ Some y)
 with_row_some (Ok row) f y e = (row, refl, e)
 with_row_some (Err x) f y e = absurd cc
 
@@ -117,7 +117,7 @@ cond_some : {A : Type 0} (b : Bool) (o : Option A) (y : A) → cond b o None ≡
 cond_some true o y e = (refl, e)
 cond_some false o y e = absurd cc
 
-pub went_of : (limit : ℕ) (how : Format) (k : PlainKernel) (budget : ℕ) (form : Form) (s : State) (n : ℕ) (line : List ℕ) (lines : List (List ℕ)) (p : Pace) →
+pub went_of : (limit : ℕ) (how : Format) (k : PlainKernel) (budget : ℕ) (form : Form) (s : TickState) (n : ℕ) (line : List ℕ) (lines : List (List ℕ)) (p : Pace) →
     advance limit how k budget form s n (line ∷ lines) ≡ Some p → Went limit how k budget form s n line lines p
 went_of limit how k budget form s n line lines p e =
     let r = with_row_some (row_at limit form n line) _ p e in
@@ -146,7 +146,7 @@ printed_after k budget a p row =
     ap (λ (bs : List ℕ). record { state = t.state; next = p.next + 1; form = next_form p.form row; format = format_after p.format t.outputs; bytes = bs })
     (sym (append_assoc a p.bytes (tick_lines p.format budget p.next t)))
 
-pub advance_more : (limit : ℕ) (how : Format) (k : PlainKernel) (budget : ℕ) (form : Form) (s : State) (n : ℕ) (lines : List (List ℕ)) (p : Pace) (line : List ℕ) (row : Row) →
+pub advance_more : (limit : ℕ) (how : Format) (k : PlainKernel) (budget : ℕ) (form : Form) (s : TickState) (n : ℕ) (lines : List (List ℕ)) (p : Pace) (line : List ℕ) (row : Row) →
     advance limit how k budget form s n lines ≡ Some p →
     PausesAtRow limit k budget p.form p.state p.next line row → advance limit how k budget form s n (lines ++ line ∷ []) ≡ Some (pace_after k budget p row)
 advance_more limit how k budget form s n [] p line row e h =

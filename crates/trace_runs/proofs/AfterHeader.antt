@@ -6,18 +6,18 @@ use Rattle.forec_base.specs.Outside.{Fell}
 use Rattle.forec_kernel.specs.Composed.{TickInput}
 use Rattle.forec_kernel.specs.Shapes.{PlainKernel}
 use Rattle.trace_rows.specs.Calls.{IfTold}
-use Rattle.trace_rows.specs.Reader.{Reader, StartSays, Waits}
+use Rattle.trace_rows.specs.Reader.{Reader, StartSays, LacksLine}
 use Rattle.trace_rows.specs.Report.{row_words}
 use Rattle.trace_runs.specs.Formats.{opening, last_written}
-use Rattle.trace_rows.specs.SourceReads.{Reads, Reading, StartTook}
+use Rattle.trace_rows.specs.SourceReads.{ReadsBytes, Reading, StartTook}
 use Rattle.trace_rows.specs.declared.fault.RowFault.{RowFault}
 use Rattle.trace_rows.specs.declared.fault.RowFault.TheVariants as fault
 use Rattle.trace_runs.specs.Calls.{AppendsFront}
 use Rattle.trace_runs.specs.Ends.{IsOwn, Given, ReadFor}
 use Rattle.trace_runs.specs.KernelNames.{input_names}
 use Rattle.trace_runs.specs.Led.{RunsRows}
-use Rattle.trace_runs.specs.Prints.{Says}
-use Rattle.trace_runs.specs.Progress.{IsWhole, IsFront, Led, GoesOnFrom, report_rest}
+use Rattle.trace_runs.specs.Prints.{PrintsReport}
+use Rattle.trace_runs.specs.Progress.{IsWholeReport, IsReportFront, Led, GoesOnFrom, report_rest}
 use Rattle.trace_runs.specs.Report.{Report, trace_turns}
 use Rattle.trace_runs.specs.declared.format.Format.{Format}
 use Rattle.trace_runs.specs.declared.status.Status.{Status}
@@ -42,7 +42,7 @@ module _ {S K : Type 0} (left : S → Option (List ℕ)) (faults : S → ℕ) (d
     trace = asked_none left faults down limit how k b old mid Took r;
   }
 
-  pub no_line : out' ≡ out → Fell (faults old) (faults mid) (down mid) → (h : List ℕ) × Waits [] h false false (left old) (left mid) → (Took : List ℕ → Type 0) → Reading left faults down [] false old mid Took → Runs mid status.ReadFault
+  pub no_line : out' ≡ out → Fell (faults old) (faults mid) (down mid) → (h : List ℕ) × LacksLine [] h false false (left old) (left mid) → (Took : List ℕ → Type 0) → Reading left faults down [] false old mid Took → Runs mid status.ReadFault
   no_line nothing fell waits Took r = record {
     prints = unread left faults down held lost is_down limit how k b Parted old mid out out out' (fell, head_failed limit how k b inputs same (left old) (left mid) (held out) (held out') (ap held nothing) waits);
     trace = asked_none left faults down limit how k b old mid Took r;
@@ -50,7 +50,7 @@ module _ {S K : Type 0} (left : S → Option (List ℕ)) (faults : S → ℕ) (d
 
   module _ (f : RowFault) (says : IfTold (left old) (left mid) (StartSays inputs limit (Err f))) (read : f ≢ fault.ReadFault) (memory : f ≢ fault.OutOfMemory) where
     pub no_header : (opened waiting : List ℕ) (result : Status) → opened ≡ opening how → waiting ≡ opened ++ last_written how (row_words 0 f) → (Took : List ℕ → Type 0) → Reading left faults down [] false old mid Took →
-        Says held lost is_down (record { bytes = waiting; status = status.Trace }) (status.Trace ≡ status.Usage) out out' result → result ≢ status.NoMemory → Runs mid result
+        PrintsReport held lost is_down (record { bytes = waiting; status = status.Trace }) (status.Trace ≡ status.Usage) out out' result → result ≢ status.NoMemory → Runs mid result
     no_header opened waiting result begun put Took r said some =
         let is : waiting ≡ opening how ++ last_written how (row_words 0 f) = put ∙ ap (λ (x : List ℕ). x ++ last_written how (row_words 0 f)) begun in
         let reports = head_fault limit how k b inputs same (left old) (left mid) f (no_header_there limit inputs (left old) (left mid) f read memory says) in
@@ -67,7 +67,7 @@ module _ {S K : Type 0} (left : S → Option (List ℕ)) (faults : S → ℕ) (d
   -- ---- a header, and rows
 
   module _ (r : Reader) (n : Started limit inputs (left old) (left mid) r) (most : r.limit ≡ limit) (head : Reading left faults down [] false old mid (StartTook inputs (Ok r)))
-      (rows : (given : List ℕ) × Reads left faults down (GoesOnFrom how k b r) mid given new) where
+      (rows : (given : List ℕ) × ReadsBytes left faults down (GoesOnFrom how k b r) mid given new) where
     reads : ReadFor left faults down limit how k b old new
     reads = subst (λ (q : ℕ). ReadFor left faults down q how k b old new) most (asked_all left faults down how k b inputs r old mid new same head rows)
 
@@ -84,7 +84,7 @@ module _ {S K : Type 0} (left : S → Option (List ℕ)) (faults : S → ℕ) (d
       trace = reads;
     }
 
-    pub rows_parted : Parted → (waiting : List ℕ) → IfSome (left mid) (IsFront how k b r (held out) (held mid_out) waiting) → Appends (held mid_out) (held out') waiting → Runs new status.NoMemory
+    pub rows_parted : Parted → (waiting : List ℕ) → IfSome (left mid) (IsReportFront how k b r (held out) (held mid_out) waiting) → Appends (held mid_out) (held out') waiting → Runs new status.NoMemory
     rows_parted part waiting fronts all = record {
       prints = parted left faults down held lost is_down limit how k b Parted old new out out out' part
           (head_report limit how k b inputs same r (left old) (left mid) n (λ q. AppendsFront (held out) (held out') q.bytes)
@@ -92,14 +92,14 @@ module _ {S K : Type 0} (left : S → Option (List ℕ)) (faults : S → ℕ) (d
       trace = reads;
     }
 
-    pub rows_cut : (waiting : List ℕ) → lost out ≤ lost mid_out → Fell (lost mid_out) (lost out') (is_down out') → IfSome (left mid) (IsFront how k b r (held out) (held mid_out) waiting) → AppendsFront (held mid_out) (held out') waiting →
+    pub rows_cut : (waiting : List ℕ) → lost out ≤ lost mid_out → Fell (lost mid_out) (lost out') (is_down out') → IfSome (left mid) (IsReportFront how k b r (held out) (held mid_out) waiting) → AppendsFront (held mid_out) (held out') waiting →
         Runs new status.WriteFault
     rows_cut waiting later fell fronts front =
         rows_unwritten (fell_since (lost out) (lost mid_out) (lost out') (is_down out') later fell)
         (some_map (left mid) _ _ fronts (λ x f. front_sent how k b r (held out) (held mid_out) (held out') waiting x f front))
 
-    module _ (F : List TickInput → Type 0) (waiting : List ℕ) (end : Status) (wholes : IfSome (left mid) (IsWhole how k b r F (held out) (held mid_out) waiting end)) where
-      pub rows_told : (result : Status) → IsOwn end → end ≢ status.Usage → lost out ≤ lost mid_out → Says held lost is_down (record { bytes = waiting; status = end }) (end ≡ status.Usage) mid_out out' result → result ≢ status.NoMemory → Runs new result
+    module _ (F : List TickInput → Type 0) (waiting : List ℕ) (end : Status) (wholes : IfSome (left mid) (IsWholeReport how k b r F (held out) (held mid_out) waiting end)) where
+      pub rows_told : (result : Status) → IsOwn end → end ≢ status.Usage → lost out ≤ lost mid_out → PrintsReport held lost is_down (record { bytes = waiting; status = end }) (end ≡ status.Usage) mid_out out' result → result ≢ status.NoMemory → Runs new result
       rows_told result own other later said some = record {
         prints = last_said left faults down held lost is_down limit how k b Parted old new out mid_out out' waiting end result own other later
             (head_report limit how k b inputs same r (left old) (left mid) n (λ q. Appends (held mid_out) (held out') waiting → Given q end (held out) (held out'))

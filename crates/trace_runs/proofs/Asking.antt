@@ -6,7 +6,7 @@ use Rattle.forec_kernel.specs.Shapes.{PlainKernel}
 use Rattle.forec_kernel.specs.Ticks.{Fresh, tick, goes_on}
 use Rattle.trace_rows.specs.Lines.{is_newline, whole_lines}
 use Rattle.trace_rows.specs.Reader.{Reader, HasLine, first_line}
-use Rattle.trace_rows.specs.SourceReads.{Reads, none, more, Lacks, Reading, TakesHead, TakesRow}
+use Rattle.trace_rows.specs.SourceReads.{ReadsBytes, none, more, Lacks, Reading, TakesHead, TakesRow}
 use Rattle.trace_rows.specs.Trace.{Row, header_at, next_form, row_at}
 use Rattle.trace_runs.specs.Ends.{GoesOn, ReadFor}
 use Rattle.trace_runs.specs.Formats.{opening}
@@ -58,11 +58,11 @@ covers_more run now new p given came bytes values c behind at same takes e on =
 
 module _ {S : Type 0} (left : S → Option (List ℕ)) (faults : S → ℕ) (down : S → Bool) where
   -- reads after reads
-  pub reads_then : (May Then : List ℕ → Type 0) (o t : S) (front : List ℕ) {x : List ℕ} {v : S} → Reads left faults down May o front t → ((x : List ℕ) → Then x → May (front ++ x)) →
-      Reads left faults down Then t x v → Reads left faults down May o (front ++ x) v
-  reads_then May Then o t front first f none = subst (λ x. Reads left faults down May o x t) (sym (append-nil front)) first
+  pub reads_then : (May Then : List ℕ → Type 0) (o t : S) (front : List ℕ) {x : List ℕ} {v : S} → ReadsBytes left faults down May o front t → ((x : List ℕ) → Then x → May (front ++ x)) →
+      ReadsBytes left faults down Then t x v → ReadsBytes left faults down May o (front ++ x) v
+  reads_then May Then o t front first f none = subst (λ x. ReadsBytes left faults down May o x t) (sym (append-nil front)) first
   reads_then May Then o t front first f (more {given} {piece} {s} {new} rest may read) =
-      subst (λ y. Reads left faults down May o y new) (append_assoc front given piece) (more (reads_then May Then o t front first f rest) (f given may) read)
+      subst (λ y. ReadsBytes left faults down May o y new) (append_assoc front given piece) (more (reads_then May Then o t front first f rest) (f given may) read)
 
   -- the reads so far, and the lines that were taken, which led the program to a pace
   pub record Asked (run : Run) (Follows : List TickInput → Type 0) (now : Reader) (row : ℕ) (old new : S) : Type 0 where
@@ -73,7 +73,7 @@ module _ {S : Type 0} (left : S → Option (List ℕ)) (faults : S → ℕ) (dow
     pub next : pace.next ≡ row
     pub form : pace.form ≡ now.form
     pub given : List ℕ
-    pub reads : Reads left faults down (GoesOnFrom run.format run.kernel run.budget run.first) old given new
+    pub reads : ReadsBytes left faults down (GoesOnFrom run.format run.kernel run.budget run.first) old given new
     pub covers : now.ended ≡ false → Covers run now pace given
 
   pub asked_start : (run : Run) (F : List TickInput → Type 0) (s : S) → F [] → Asked run F run.first 1 s s
@@ -91,7 +91,7 @@ module _ {S : Type 0} (left : S → Option (List ℕ)) (faults : S → ℕ) (dow
 
   -- what a call reads more
   pub asked_last : (run : Run) (F : List TickInput → Type 0) (now : Reader) (row : ℕ) (old s t : S) (Took : List ℕ → Type 0) → Asked run F now row old s → Reading left faults down now.held now.ended s t Took →
-      (given : List ℕ) × Reads left faults down (GoesOnFrom run.format run.kernel run.budget run.first) old given t
+      (given : List ℕ) × ReadsBytes left faults down (GoesOnFrom run.format run.kernel run.budget run.first) old given t
   asked_last run F now row old s t Took a r =
       let g = r.1 in (
         a.given ++ g.given,
@@ -121,12 +121,12 @@ module _ {S : Type 0} (left : S → Option (List ℕ)) (faults : S → ℕ) (dow
   -- the header, and the rows after it
   pub asked_all : (how : Format) (k : PlainKernel) (budget : ℕ) (inputs : List (List ℕ)) (first : Reader) (old s t : S) → inputs ≡ input_names k →
       Reading left faults down [] false old s (λ bytes. TakesHead inputs first.form bytes first.held first.ended) →
-      (given : List ℕ) × Reads left faults down (GoesOnFrom how k budget first) s given t → ReadFor left faults down first.limit how k budget old t
+      (given : List ℕ) × ReadsBytes left faults down (GoesOnFrom how k budget first) s given t → ReadFor left faults down first.limit how k budget old t
   asked_all how k budget inputs first old s t e head rows =
       let g = head.1 in
       let h = head.2 in
       let is = ap (λ ns. header_at ns (first_line head.0)) (sym e) ∙ h.header in
-      let before : Reads left faults down (GoesOn first.limit how k budget) old g.given s =
+      let before : ReadsBytes left faults down (GoesOn first.limit how k budget) old g.given s =
       reads_then (GoesOn first.limit how k budget) (λ came. Lacks ([] ++ came) false) old old [] none (λ came lacks. ([], ap (printed_for first.limit how k budget) (no_line came lacks.0) ∙ printed_none first.limit how k budget)) g.reads in (
         g.given ++ rows.0,
         reads_then (GoesOn first.limit how k budget) (GoesOnFrom how k budget first) old s g.given before

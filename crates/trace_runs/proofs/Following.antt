@@ -3,7 +3,7 @@ use Rattle.std.proofs.Common.{◌≡◌, ℕ, ℤ, List, [], ◌∷◌, ◌++◌
 use Rattle.forec_kernel.specs.declared.shape.Outcome.{Outcome}
 use Rattle.forec_kernel.specs.Composed.{TickInput, next_state, state_after}
 use Rattle.forec_kernel.specs.Shapes.{PlainKernel}
-use Rattle.forec_kernel.specs.Ticks.{State, Fresh, tick}
+use Rattle.forec_kernel.specs.Ticks.{TickState, Fresh, tick}
 use Rattle.forec_kernel.specs.WellFormed.{WellFormed}
 use Rattle.thread_code.specs.Alone.{Stands}
 use Rattle.thread_code.specs.Plain.{PlainCode}
@@ -12,20 +12,20 @@ use Rattle.trace_runs.specs.Ticking.{tick_after, RunsOnce, Starts}
 use Rattle.tick_jobs.specs.Outcomes.{HasOutputs}
 use Rattle.tick_jobs.specs.Ticks.{Ticking, HasRun, RunsTick}
 
-state_then : (k : PlainKernel) (turns : List TickInput) (last : TickInput) (old : State) → state_after k old (turns ++ last ∷ []) ≡ next_state k (state_after k old turns) last
+state_then : (k : PlainKernel) (turns : List TickInput) (last : TickInput) (old : TickState) → state_after k old (turns ++ last ∷ []) ≡ next_state k (state_after k old turns) last
 state_then k [] last old = refl
 state_then k (turn ∷ turns) last old = state_then k turns last (next_state k old turn)
 
 -- a state that the ticks so far have led to
-module _ (k : PlainKernel) (turns : List TickInput) (turn : TickInput) (s : State) (led : s ≡ state_after k Fresh turns) where
+module _ (k : PlainKernel) (turns : List TickInput) (turn : TickInput) (s : TickState) (led : s ≡ state_after k Fresh turns) where
   pub outcome_at : (o : Outcome) → o ≡ (tick_after k turns turn).outcome → o ≡ (tick k turn.budget s turn.row).outcome
-  outcome_at o h = h ∙ ap (λ (x : State). (tick k turn.budget x turn.row).outcome) (sym led)
+  outcome_at o h = h ∙ ap (λ (x : TickState). (tick k turn.budget x turn.row).outcome) (sym led)
 
   pub outputs_at : (values : List ℤ) → values ≡ (tick_after k turns turn).outputs → values ≡ (tick k turn.budget s turn.row).outputs
-  outputs_at values h = h ∙ ap (λ (x : State). (tick k turn.budget x turn.row).outputs) (sym led)
+  outputs_at values h = h ∙ ap (λ (x : TickState). (tick k turn.budget x turn.row).outputs) (sym led)
 
   pub led_on : (tick k turn.budget s turn.row).state ≡ state_after k Fresh (turns ++ turn ∷ [])
-  led_on = ap (λ (x : State). next_state k x turn) led ∙ sym (state_then k turns turn Fresh)
+  led_on = ap (λ (x : TickState). next_state k x turn) led ∙ sym (state_then k turns turn Fresh)
 
 -- a code is followed from its start
 pub code_starts : (c now : PlainCode) (Ran : List TickInput → Type 0) (k : PlainKernel) → now ≡ c → WellFormed k → Stands c k → Ran [] → Starts now.shape (CodeFollows now Ran) k
@@ -35,12 +35,12 @@ code_starts c now Ran k is formed stands none = record {
 }
 
 -- a kernel that is rewritten: where it stood, and where it stands after a tick
-pub rewritten_once : (k now : PlainKernel) → now ≡ k → (s s' : State) (turn : TickInput) (values : List ℤ) (o : Outcome) → o ≡ (tick k turn.budget s turn.row).outcome →
+pub rewritten_once : (k now : PlainKernel) → now ≡ k → (s s' : TickState) (turn : TickInput) (values : List ℤ) (o : Outcome) → o ≡ (tick k turn.budget s turn.row).outcome →
     (HasOutputs o → values ≡ (tick k turn.budget s turn.row).outputs) → s' ≡ (tick k turn.budget s turn.row).state →
     RunsOnce (λ m turns. (m ≡ k) × (s ≡ state_after m Fresh turns)) (λ m turns. (m ≡ now) × (s' ≡ state_after m Fresh turns)) turn values o
 rewritten_once k now same s s' turn values o how outputs state = record {
-  outcome = λ m turns f. how ∙ ap (λ (x : PlainKernel). (tick x turn.budget s turn.row).outcome) (sym f.0) ∙ ap (λ (x : State). (tick m turn.budget x turn.row).outcome) f.1;
-  outputs = λ m turns f has. outputs has ∙ ap (λ (x : PlainKernel). (tick x turn.budget s turn.row).outputs) (sym f.0) ∙ ap (λ (x : State). (tick m turn.budget x turn.row).outputs) f.1;
+  outcome = λ m turns f. how ∙ ap (λ (x : PlainKernel). (tick x turn.budget s turn.row).outcome) (sym f.0) ∙ ap (λ (x : TickState). (tick m turn.budget x turn.row).outcome) f.1;
+  outputs = λ m turns f has. outputs has ∙ ap (λ (x : PlainKernel). (tick x turn.budget s turn.row).outputs) (sym f.0) ∙ ap (λ (x : TickState). (tick m turn.budget x turn.row).outputs) f.1;
   follows = λ m turns f. (f.0 ∙ sym same, state ∙ ap (λ (x : PlainKernel). (tick x turn.budget s turn.row).state) (sym f.0) ∙ led_on m turns turn s f.1);
 }
 

@@ -7,7 +7,7 @@ use Rattle.forec_kernel.specs.Shapes.{PlainKernel}
 use Rattle.forec_kernel.specs.Ticks.{Fresh}
 use Rattle.trace_rows.specs.Calls.{IfTold}
 use Rattle.trace_rows.specs.Lines.{whole_lines}
-use Rattle.trace_rows.specs.Reader.{Reader, StartTakes, StartSays, Takes, Waits, ahead}
+use Rattle.trace_rows.specs.Reader.{Reader, StartTakes, StartSays, Takes, LacksLine, trace_ahead}
 use Rattle.trace_rows.specs.Trace.{Form, Trace, header_at, stop, trace_of}
 use Rattle.trace_rows.specs.declared.fault.RowFault.{RowFault}
 use Rattle.trace_runs.specs.Ends.{PrintedFor, Wanted}
@@ -27,7 +27,7 @@ pub record Started (limit : ℕ) (inputs : List (List ℕ)) (left_old left_new :
   pub header : List ℕ
   pub is : header_at inputs header ≡ Ok r.form
   pub takes : Takes header [] r.held r.ended left_old left_new
-  pub trace : IfTold left_old left_new (λ x y. trace_of inputs limit x ≡ ahead r y)
+  pub trace : IfTold left_old left_new (λ x y. trace_of inputs limit x ≡ trace_ahead r y)
 
 -- what was read is a header
 pub started : (limit : ℕ) (inputs : List (List ℕ)) (l l' : Option (List ℕ)) (r : Reader) → IfTold l l' (StartSays inputs limit (Ok r)) → StartTakes inputs l l' (Ok r) → Started limit inputs l l' r
@@ -61,13 +61,13 @@ module _ (limit : ℕ) (how : Format) (k : PlainKernel) (b : ℕ) (inputs : List
   unfolding trace_turns
   turns_read x t h = ap (λ ns. turns_from k b Fresh (trace_of ns limit x).rows) (sym same) ∙ ap (λ (u : Trace). turns_from k b Fresh u.rows) h
 
-  pub header_row : (r : Reader) (x y : List ℕ) → trace_of inputs limit x ≡ ahead r y → trace_report limit how k b x ≡ report_rest how k b r y
+  pub header_row : (r : Reader) (x y : List ℕ) → trace_of inputs limit x ≡ trace_ahead r y → trace_report limit how k b x ≡ report_rest how k b r y
   unfolding report_rest
-  header_row r x y h = trace_reads x (ahead r y) h
+  header_row r x y h = trace_reads x (trace_ahead r y) h
 
-  pub header_turns : (r : Reader) (x y : List ℕ) → trace_of inputs limit x ≡ ahead r y → trace_turns limit k b x ≡ turns_rest k b r y
+  pub header_turns : (r : Reader) (x y : List ℕ) → trace_of inputs limit x ≡ trace_ahead r y → trace_turns limit k b x ≡ turns_rest k b r y
   unfolding turns_rest
-  header_turns r x y h = turns_read x (ahead r y) h
+  header_turns r x y h = turns_read x (trace_ahead r y) h
 
   -- ---- no header
 
@@ -78,7 +78,7 @@ module _ (limit : ℕ) (how : Format) (k : PlainKernel) (b : ℕ) (inputs : List
   pub head_ran : (F : List TickInput → Type 0) (l l' : Option (List ℕ)) (f : RowFault) → IfTold l l' (λ x y. trace_of inputs limit x ≡ stop (Some f) 0) → F [] → IfSome l (λ x. F (trace_turns limit k b x))
   head_ran F l l' f n none = told_some l l' (λ x y. trace_of inputs limit x ≡ stop (Some f) 0) _ n (λ x y h. subst F (sym (turns_read x (stop (Some f) 0) h)) none)
 
-  pub head_failed : (l l' h0 h2 : Option (List ℕ)) → h2 ≡ h0 → (held : List ℕ) × Waits [] held false false l l' → Wanted limit how k b l l' h0 h2
+  pub head_failed : (l l' h0 h2 : Option (List ℕ)) → h2 ≡ h0 → (held : List ℕ) × LacksLine [] held false false l l' → Wanted limit how k b l l' h0 h2
   head_failed l l' h0 h2 e n = (
     [],
     subst (λ h. Appends h0 h []) (sym e) (appends_refl h0),

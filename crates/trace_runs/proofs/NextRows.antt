@@ -1,7 +1,7 @@
 -- What is found where the next row stands.
 use Rattle.std.proofs.Common.{◌≡◌, ◌≢◌, ℕ, ◌+◌, ◌<◌, false, List, Option, Some, None, Result, Ok, Err, refl}
 use Rattle.trace_rows.specs.Calls.{IfTold}
-use Rattle.trace_rows.specs.Reader.{Reader, Takes, Waits, NextTakes, NextSays, NextLeaves, ahead}
+use Rattle.trace_rows.specs.Reader.{Reader, Takes, LacksLine, NextTakes, NextSays, NextLeaves, trace_ahead}
 use Rattle.trace_rows.specs.Trace.{Row, next_form, row_at, row_width, stop, onto}
 use Rattle.trace_rows.specs.declared.fault.Next.{Next}
 use Rattle.trace_rows.specs.declared.fault.Next.TheVariants as next
@@ -14,7 +14,7 @@ pub record Gave (old new : Reader) (left_old left_new : Option (List ℕ)) (row 
   pub is : row_at old.limit old.form (old.given + 1) line ≡ Ok row
   pub takes : Takes line old.held new.held new.ended left_old left_new
   pub stays : new.ended ≡ false → old.ended ≡ false
-  pub trace : IfTold left_old left_new (λ x y. ahead old x ≡ onto (Ok row) (old.given + 1) (ahead new y))
+  pub trace : IfTold left_old left_new (λ x y. trace_ahead old x ≡ onto (Ok row) (old.given + 1) (trace_ahead new y))
   pub within : old.given < old.limit
   pub count : new.given ≡ old.given + 1
   pub most : new.limit ≡ old.limit
@@ -24,10 +24,10 @@ pub record Gave (old new : Reader) (left_old left_new : Option (List ℕ)) (row 
 -- what a call that looks for the next row says; it fails only where no whole line was held or came
 abbrev pub GivesNext : Reader → Reader → Option (List ℕ) → Option (List ℕ) → Row → Result Next RowFault → Type 0
 GivesNext old new left_old left_new row (Ok next.Row) = Gave old new left_old left_new row
-GivesNext old new left_old left_new row (Ok next.End) = IfTold left_old left_new (λ x y. ahead old x ≡ stop None (old.given + 1))
-GivesNext old new left_old left_new row (Err fault.ReadFault) = Waits old.held new.held old.ended new.ended left_old left_new
+GivesNext old new left_old left_new row (Ok next.End) = IfTold left_old left_new (λ x y. trace_ahead old x ≡ stop None (old.given + 1))
+GivesNext old new left_old left_new row (Err fault.ReadFault) = LacksLine old.held new.held old.ended new.ended left_old left_new
 GivesNext old new left_old left_new row (Err fault.OutOfMemory) = ⊥
-GivesNext old new left_old left_new row (Err f) = IfTold left_old left_new (λ x y. ahead old x ≡ stop (Some f) (old.given + 1))
+GivesNext old new left_old left_new row (Err f) = IfTold left_old left_new (λ x y. trace_ahead old x ≡ stop (Some f) (old.given + 1))
 
 pub gives_next : (old new : Reader) (row_old row : Row) (a b : Option (List ℕ)) (r : Result Next RowFault) → NextTakes old new row a b r → IfTold a b (NextSays old new row r) → NextLeaves old new row_old row r →
     new.limit ≡ old.limit → (new.ended ≡ false → old.ended ≡ false) → r ≢ Err fault.OutOfMemory → GivesNext old new a b row r

@@ -1,19 +1,19 @@
 -- Numbers after a number.
 use Rattle.std.proofs.Common.{◌≡◌, ℕ, suc, ◌+◌, ◌-◌, ◌<◌, List, [], ◌∷◌, ◌++◌, refl, sym, ap, ◌∙◌, arith, append_assoc, append-nil, ◌≤◌}
-use Rattle.trace_runs.specs.Orders.{next, numbers}
+use Rattle.trace_runs.specs.Orders.{next, order_numbers}
 
 -- none are left
-pub none_left : (counter : ℕ) (list : List ℕ) (x : ℕ) → 64 ≤ counter → list ++ numbers (64 - counter) x ≡ list
+pub none_left : (counter : ℕ) (list : List ℕ) (x : ℕ) → 64 ≤ counter → list ++ order_numbers (64 - counter) x ≡ list
 none_left counter list x h =
     let none : 64 - counter ≡ 0 = omega (arith, h) in
-    ap (λ n. list ++ numbers n x) none ∙ append-nil list
+    ap (λ n. list ++ order_numbers n x) none ∙ append-nil list
 
-numbers_step : (n x : ℕ) → numbers (suc n) x ≡ next x ∷ numbers n (next x)
+numbers_step : (n x : ℕ) → order_numbers (suc n) x ≡ next x ∷ order_numbers n (next x)
 numbers_step n x = refl
 
 -- one more of those that are left
-pub moved : (counter : ℕ) (list : List ℕ) (x : ℕ) → counter < 64 → (list ++ next x ∷ []) ++ numbers (64 - (counter + 1)) (next x) ≡ list ++ numbers (64 - counter) x
+pub moved : (counter : ℕ) (list : List ℕ) (x : ℕ) → counter < 64 → (list ++ next x ∷ []) ++ order_numbers (64 - (counter + 1)) (next x) ≡ list ++ order_numbers (64 - counter) x
 moved counter list x h =
     let left : 64 - counter ≡ suc (64 - (counter + 1)) = omega (arith, h) in
-    append_assoc list (next x ∷ []) (numbers (64 - (counter + 1)) (next x))
-    ∙ ap (λ ns. list ++ ns) (sym (ap (λ n. numbers n x) left ∙ numbers_step (64 - (counter + 1)) x))
+    append_assoc list (next x ∷ []) (order_numbers (64 - (counter + 1)) (next x))
+    ∙ ap (λ ns. list ++ ns) (sym (ap (λ n. order_numbers n x) left ∙ numbers_step (64 - (counter + 1)) x))

@@ -3,8 +3,8 @@ use Rattle.std.proofs.Common.{◌≡◌, ℕ, ◌+◌, ◌-◌, ℤ, Bool, true,
 use Rattle.forec_kernel.specs.declared.shape.Outcome.{Outcome}
 use Rattle.forec_kernel.specs.declared.shape.Outcome.TheVariants as outcome
 use Rattle.forec_kernel.specs.Shapes.{PlainKernel}
-use Rattle.forec_kernel.specs.Ticks.{State, Fresh, Tick, tick, goes_on, run_from}
-use Rattle.trace_rows.specs.Trace.{Row, End, Trace, onto, trace_of}
+use Rattle.forec_kernel.specs.Ticks.{TickState, Fresh, Tick, tick, goes_on, run_from}
+use Rattle.trace_rows.specs.Trace.{Row, TraceEnd, Trace, onto, trace_of}
 use Rattle.trace_rows.specs.declared.fault.RowFault.{RowFault}
 use Rattle.trace_runs.specs.Formats.{opening, tick_written, format_after, last_written}
 use Rattle.trace_runs.specs.KernelNames.{input_names}
@@ -40,7 +40,7 @@ stepped how outcome.Ended budget n outputs values words h = absurd cc
 stepped how (outcome.Trapped place trap) budget n outputs values words h = absurd cc
 stepped how outcome.Over budget n outputs values words h = absurd cc
 
-module _ (how : Format) (k : PlainKernel) (budget : ℕ) (s : State) (n : ℕ) (row : Row) (rest : Trace) (values : List (List ℤ)) (words : List ℕ) where
+module _ (how : Format) (k : PlainKernel) (budget : ℕ) (s : TickState) (n : ℕ) (row : Row) (rest : Trace) (values : List (List ℤ)) (words : List ℕ) where
   abbrev t : Tick
   t = tick k budget s row
 
@@ -51,7 +51,7 @@ module _ (how : Format) (k : PlainKernel) (budget : ℕ) (s : State) (n : ℕ) (
       ap (λ (r : Report). r.bytes) (report_step how k budget s n 0 row rest e) ∙ ap (λ ws. tick_lines how budget n t ++ ws) later ∙ stepped how t.outcome budget n t.outputs values words e
   row_written later false e = ap (λ (r : Report). r.bytes) (report_stops how k budget s n 0 row rest e) ∙ stopped how t.outcome budget n t.outputs values words e
 
-from_written : (how : Format) (k : PlainKernel) (budget : ℕ) (s : State) (n : ℕ) (rows : List Row) (end : End) →
+from_written : (how : Format) (k : PlainKernel) (budget : ℕ) (s : TickState) (n : ℕ) (rows : List Row) (end : TraceEnd) →
     (report_from how k budget s n (record { rows = rows; end = end })).bytes ≡ written how n (values_from k budget s rows) (words_from k budget s n rows end)
 from_written how k budget s n [] end = trace_end how end.cause end.line
 from_written how k budget s n (row ∷ rows) end =
@@ -70,7 +70,7 @@ end_alike : (how other : Format) (cause : Option RowFault) (n : ℕ) → (end_of
 end_alike how other None n = refl
 end_alike how other (Some f) n = refl
 
-ending_alike : (how other : Format) (o : Outcome) (end : End) → (ending how o end).status ≡ (ending other o end).status
+ending_alike : (how other : Format) (o : Outcome) (end : TraceEnd) → (ending how o end).status ≡ (ending other o end).status
 ending_alike how other outcome.Paused end = end_alike how other end.cause end.line
 ending_alike how other outcome.Ended end = refl
 ending_alike how other (outcome.Trapped place trap) end = refl

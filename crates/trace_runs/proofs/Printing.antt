@@ -5,7 +5,7 @@ use Rattle.std.specs.Io.KnownBytes.{Appends}
 use Rattle.forec_base.specs.Outside.{Fell}
 use Rattle.trace_runs.specs.Calls.{AppendsFront}
 use Rattle.trace_runs.specs.Ends.{IsOwn, Given}
-use Rattle.trace_runs.specs.Prints.{Prints, Says}
+use Rattle.trace_runs.specs.Prints.{Prints, PrintsReport}
 use Rattle.trace_runs.specs.Report.{Report}
 use Rattle.trace_runs.specs.declared.status.Status.{Status}
 use Rattle.trace_runs.specs.declared.status.Status.TheVariants as status
@@ -104,15 +104,15 @@ module _ {K : Type 0} (held : K → Option (List ℕ)) (faults : K → ℕ) (dow
 -- ---- a line
 
 module _ {K : Type 0} (held : K → Option (List ℕ)) (faults : K → ℕ) (down : K → Bool) (r : Report) (old new : K) where
-  pub says_all : IsOwn r.status → Appends (held old) (held new) r.bytes → Says held faults down r (r.status ≡ status.Usage) old new r.status
+  pub says_all : IsOwn r.status → Appends (held old) (held new) r.bytes → PrintsReport held faults down r (r.status ≡ status.Usage) old new r.status
   says_all own all =
       prints_all held faults down Unit (λ q. q ≡ r) (r.status ≡ status.Usage) ⊥ ⊥ old new r.status own (λ e. e) (λ _. (r, refl, record { status = refl; bytes = all }))
 
-  pub says_front : Fell (faults old) (faults new) (down new) → AppendsFront (held old) (held new) r.bytes → Says held faults down r (r.status ≡ status.Usage) old new status.WriteFault
+  pub says_front : Fell (faults old) (faults new) (down new) → AppendsFront (held old) (held new) r.bytes → PrintsReport held faults down r (r.status ≡ status.Usage) old new status.WriteFault
   says_front fell front = prints_front held faults down Unit (λ q. q ≡ r) (r.status ≡ status.Usage) ⊥ ⊥ old new fell (λ _. (r, refl, front))
 
   -- what a line makes of another report with the same bytes and status
-  pub said_as : (Misused : Type 0) (Told : Type 0) (Is : Report → Type 0) (Misused' Unread Parted : Type 0) (end : Status) → (Told → Is r) → (Misused → Misused') → Says held faults down r Misused old new end →
+  pub said_as : (Misused : Type 0) (Told : Type 0) (Is : Report → Type 0) (Misused' Unread Parted : Type 0) (end : Status) → (Told → Is r) → (Misused → Misused') → PrintsReport held faults down r Misused old new end →
       Prints held faults down Told Is Misused' Unread Parted old new end
   said_as Misused Told Is Misused' Unread Parted end is misused p =
       prints_as held faults down Unit (λ q. q ≡ r) Misused ⊥ ⊥ old new Told Is Misused' Unread Parted end (λ _. tt) (λ told q e. subst Is (sym e) (is told)) misused (λ n. absurd n) (λ n. absurd n) p

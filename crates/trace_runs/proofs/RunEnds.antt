@@ -8,7 +8,7 @@ use Rattle.trace_rows.specs.SourceReads.{none}
 use Rattle.trace_runs.specs.Calls.{AppendsFront}
 use Rattle.trace_runs.specs.Ends.{IsOwn, Given, Wanted, ReadFor}
 use Rattle.trace_runs.specs.Led.{IsTold, IsTraceReport, RunsRows}
-use Rattle.trace_runs.specs.Prints.{Prints, Says}
+use Rattle.trace_runs.specs.Prints.{Prints, PrintsReport}
 use Rattle.trace_runs.specs.Report.{Report, trace_report}
 use Rattle.trace_runs.specs.declared.format.Format.{Format}
 use Rattle.trace_runs.specs.declared.status.Status.{Status}
@@ -21,7 +21,7 @@ pub front_whole : (old new : Option (List ℕ)) (bytes : List ℕ) → Appends o
 front_whole old new bytes a = (bytes, [], sym (append-nil bytes), a)
 
 -- what a line that was said tells
-module _ {K : Type 0} (held : K → Option (List ℕ)) (lost : K → ℕ) (is_down : K → Bool) (line : Report) (Misused : Type 0) (old new : K) (end : Status) (p : Says held lost is_down line Misused old new end) where
+module _ {K : Type 0} (held : K → Option (List ℕ)) (lost : K → ℕ) (is_down : K → Bool) (line : Report) (Misused : Type 0) (old new : K) (end : Status) (p : PrintsReport held lost is_down line Misused old new end) where
   pub line_said : IsOwn end → end ≡ line.status
   line_said own = let r = p.own own tt in r.2.status ∙ ap (λ (q : Report). q.status) r.1
 
@@ -59,7 +59,7 @@ module _ {S K : Type 0} (left : S → Option (List ℕ)) (faults : S → ℕ) (d
   pub last_said : (waiting : List ℕ) (end result : Status) → IsOwn end → end ≢ status.Usage → lost out ≤ lost mid →
       IfSome (left old) (λ x. Appends (held mid) (held out') waiting → Given (trace_report limit how k b x) end (held out) (held out')) →
       IfSome (left old) (λ x. AppendsFront (held mid) (held out') waiting → AppendsFront (held out) (held out') (trace_report limit how k b x).bytes) →
-      Says held lost is_down (record { bytes = waiting; status = end }) (end ≡ status.Usage) mid out' result → result ≢ status.NoMemory → P result
+      PrintsReport held lost is_down (record { bytes = waiting; status = end }) (end ≡ status.Usage) mid out' result → result ≢ status.NoMemory → P result
   last_said waiting end result own other later whole part p some =
       let line : Report = record { bytes = waiting; status = end } in
       record {
@@ -101,5 +101,5 @@ module _ {S K : Type 0} (left : S → Option (List ℕ)) (faults : S → ℕ) (d
     trace = subst (λ (t : S). ReadFor left faults down limit how k b old t) (sym same) ([], none);
   }
 
-pub workload_unrun : {K : Type 0} (held : K → Option (List ℕ)) (lost : K → ℕ) (is_down : K → Bool) (r : Report) (Misused : Type 0) (out out' : K) → out' ≡ out → Says held lost is_down r Misused out out' status.NoMemory
+pub workload_unrun : {K : Type 0} (held : K → Option (List ℕ)) (lost : K → ℕ) (is_down : K → Bool) (r : Report) (Misused : Type 0) (out out' : K) → out' ≡ out → PrintsReport held lost is_down r Misused out out' status.NoMemory
 workload_unrun held lost is_down r Misused out out' kept = prints_nothing held lost is_down Unit (λ q. q ≡ r) Misused ⊥ ⊥ out out' (ap held kept)

@@ -11,11 +11,11 @@ use Rattle.forec_kernel.specs.Composed.{TickInput, state_after}
 use Rattle.forec_kernel.specs.declared.shape.Outcome.{Outcome}
 use Rattle.forec_kernel.specs.declared.shape.Outcome.TheVariants as outcome
 use Rattle.forec_kernel.specs.Shapes.{PlainKernel}
-use Rattle.forec_kernel.specs.Ticks.{State, Fresh, tick, goes_on}
+use Rattle.forec_kernel.specs.Ticks.{TickState, Fresh, tick, goes_on}
 use Rattle.trace_rows.specs.Calls.{IfTold}
 use Rattle.trace_rows.specs.Lines.{is_newline, whole_lines}
-use Rattle.trace_rows.specs.Reader.{Reader, HasLine, Waits, ahead}
-use Rattle.trace_rows.specs.Trace.{Row, Form, End, Trace, stop, onto, row_at, row_width}
+use Rattle.trace_rows.specs.Reader.{Reader, HasLine, LacksLine, trace_ahead}
+use Rattle.trace_rows.specs.Trace.{Row, Form, TraceEnd, Trace, stop, onto, row_at, row_width}
 use Rattle.trace_rows.specs.declared.fault.RowFault.{RowFault}
 use Rattle.trace_runs.specs.Calls.{AppendsFront}
 use Rattle.trace_runs.specs.Ends.{Given}
@@ -23,7 +23,7 @@ use Rattle.trace_runs.specs.Report.{Report, Pace, printed_before, tick_lines, li
 use Rattle.trace_rows.specs.Report.{rows_words, row_words}
 use Rattle.trace_runs.specs.Formats.{opening, format_after, last_written}
 use Rattle.trace_runs.specs.declared.format.Format.{Format}
-use Rattle.trace_runs.specs.Progress.{IsWhole, IsFront, Led, report_rest, turns_rest}
+use Rattle.trace_runs.specs.Progress.{IsWholeReport, IsReportFront, Led, report_rest, turns_rest}
 use Rattle.trace_rows.specs.declared.fault.Next.TheVariants as next
 use Rattle.trace_rows.specs.declared.fault.RowFault.TheVariants as fault
 use Rattle.trace_runs.specs.declared.status.Status.{Status}
@@ -59,8 +59,8 @@ pub record Taken (how : Format) (k : PlainKernel) (budget : ℕ) (first now : Re
 
 -- rows were taken whose ticks led a kernel from its start to a pace
 pub record Leads (how : Format) (k : PlainKernel) (budget : ℕ) (first now : Reader) (turns : List TickInput) (p : Pace) (left_old left_new : List ℕ) : Type 0 where
-  pub report : report_rest how k budget first left_old ≡ behind_bytes p.bytes (report_from p.format k budget p.state p.next (ahead now left_new))
-  pub ran : turns_rest k budget first left_old ≡ turns ++ turns_from k budget p.state (ahead now left_new).rows
+  pub report : report_rest how k budget first left_old ≡ behind_bytes p.bytes (report_from p.format k budget p.state p.next (trace_ahead now left_new))
+  pub ran : turns_rest k budget first left_old ≡ turns ++ turns_from k budget p.state (trace_ahead now left_new).rows
   pub stays : now.ended ≡ false → first.ended ≡ false
   pub taken : now.ended ≡ false → Taken how k budget first now p left_old left_new
 
@@ -68,7 +68,7 @@ pub record Leads (how : Format) (k : PlainKernel) (budget : ℕ) (first now : Re
 pub record Reached (run : Run) (Follows : List TickInput → Type 0) (now : Reader) (left_old left held_old held : Option (List ℕ)) (unsent : List ℕ) (how : Format) (row : ℕ) : Type 0 where
   pub turns : List TickInput
   pub follows : Follows turns
-  pub state : State
+  pub state : TickState
   pub led : state ≡ state_after run.kernel Fresh turns
   pub stands : Stands_at run.first row now
   pub bytes : List ℕ
@@ -134,21 +134,21 @@ pub record Is (run : Run) (bytes : List ℕ) (turns : List TickInput) (s : Repor
   pub report : report_rest run.format run.kernel run.budget run.first x ≡ behind_bytes bytes s
   pub ran : turns_rest run.kernel run.budget run.first x ≡ turns
 
-report_none : (how : Format) (k : PlainKernel) (budget : ℕ) (s : State) (n m : ℕ) →
+report_none : (how : Format) (k : PlainKernel) (budget : ℕ) (s : TickState) (n m : ℕ) →
     report_from how k budget s n (stop None m) ≡ record { bytes = last_written how (rows_words (m - 1)); status = status.Done }
 report_none how k budget s n m = refl
 
-report_fault : (how : Format) (k : PlainKernel) (budget : ℕ) (s : State) (n m : ℕ) (f : RowFault) →
+report_fault : (how : Format) (k : PlainKernel) (budget : ℕ) (s : TickState) (n m : ℕ) (f : RowFault) →
     report_from how k budget s n (stop (Some f) m) ≡ record { bytes = last_written how (row_words m f); status = status.Trace }
 report_fault how k budget s n m f = refl
 
-ending_stops : (how : Format) (o : Outcome) (end : End) → goes_on o ≡ false → ending how o end ≡ record { bytes = []; status = status_after o }
+ending_stops : (how : Format) (o : Outcome) (end : TraceEnd) → goes_on o ≡ false → ending how o end ≡ record { bytes = []; status = status_after o }
 ending_stops how outcome.Paused end h = absurd cc
 ending_stops how outcome.Ended end h = refl
 ending_stops how (outcome.Trapped place trap) end h = refl
 ending_stops how outcome.Over end h = refl
 
-pub report_stops : (how : Format) (k : PlainKernel) (budget : ℕ) (s : State) (n m : ℕ) (row : Row) (rest : Trace) → goes_on (tick k budget s row).outcome ≡ false →
+pub report_stops : (how : Format) (k : PlainKernel) (budget : ℕ) (s : TickState) (n m : ℕ) (row : Row) (rest : Trace) → goes_on (tick k budget s row).outcome ≡ false →
     report_from how k budget s n (onto (Ok row) m rest) ≡ (let t = tick k budget s row in record { bytes = tick_lines how budget n t; status = status_after t.outcome })
 report_stops how k budget s n m row rest h =
     let t = tick k budget s row in
@@ -187,15 +187,15 @@ at_any : (run : Run) (F : List TickInput → Type 0) (now : Reader) (l0 l h0 h :
     IfSome l0 (λ x. (s : Report) × (report_rest run.format run.kernel run.budget run.first x ≡ behind_bytes r.bytes s))
 at_any run F now l0 l h0 h unsent how row r =
     let p : Pace = record { state = r.state; next = row; form = now.form; format = how; bytes = r.bytes } in
-    told_some l0 l (Leads run.format run.kernel run.budget run.first now r.turns p) _ r.told (λ x y led. (report_from how run.kernel run.budget r.state row (ahead now y), led.report))
+    told_some l0 l (Leads run.format run.kernel run.budget run.first now r.turns p) _ r.told (λ x y led. (report_from how run.kernel run.budget r.state row (trace_ahead now y), led.report))
 
 -- the trace stops there
 stops_at : (run : Run) (F : List TickInput → Type 0) (now : Reader) (l0 l l' h0 h : Option (List ℕ)) (unsent : List ℕ) (how : Format) (row : ℕ) (r : Reached run F now l0 l h0 h unsent how row) (f : Option RowFault) (s : Report) →
-    IfTold l l' (λ x y. ahead now x ≡ stop f (now.given + 1)) → report_from how run.kernel run.budget r.state row (stop f (now.given + 1)) ≡ s → IfSome l0 (Is run r.bytes r.turns s)
+    IfTold l l' (λ x y. trace_ahead now x ≡ stop f (now.given + 1)) → report_from how run.kernel run.budget r.state row (stop f (now.given + 1)) ≡ s → IfSome l0 (Is run r.bytes r.turns s)
 stops_at run F now l0 l l' h0 h unsent how row r f s n is =
     let p : Pace = record { state = r.state; next = row; form = now.form; format = how; bytes = r.bytes } in
     told_some l0 l' (λ x z. Is run r.bytes r.turns s x) (Is run r.bytes r.turns s)
-    (told_both l0 l l' (Leads run.format run.kernel run.budget run.first now r.turns p) (λ y z. ahead now y ≡ stop f (now.given + 1)) (λ x z. Is run r.bytes r.turns s x) r.told n
+    (told_both l0 l l' (Leads run.format run.kernel run.budget run.first now r.turns p) (λ y z. trace_ahead now y ≡ stop f (now.given + 1)) (λ x z. Is run r.bytes r.turns s x) r.told n
     (λ x y z led stops. record {
       report = led.report ∙ ap (λ t. behind_bytes r.bytes (report_from how run.kernel run.budget r.state row t)) stops ∙ ap (behind_bytes r.bytes) is;
       ran = led.ran ∙ ap (λ (t : Trace). r.turns ++ turns_from run.kernel run.budget r.state t.rows) stops ∙ append-nil r.turns;
@@ -209,7 +209,7 @@ at_end run F now new l0 l l' h0 h unsent how row values r n =
     (report_none how run.kernel run.budget r.state row (now.given + 1) ∙ ap (λ m. record { bytes = last_written how (rows_words (m - 1)); status = status.Done }) r.stands.number)
 
 -- what stands next is no row
-pub stops_there : (now new : Reader) (l l' : Option (List ℕ)) (values : Row) (f : RowFault) → f ≢ fault.ReadFault → GivesNext now new l l' values (Err f) → IfTold l l' (λ x y. ahead now x ≡ stop (Some f) (now.given + 1))
+pub stops_there : (now new : Reader) (l l' : Option (List ℕ)) (values : Row) (f : RowFault) → f ≢ fault.ReadFault → GivesNext now new l l' values (Err f) → IfTold l l' (λ x y. trace_ahead now x ≡ stop (Some f) (now.given + 1))
 stops_there now new l l' values fault.Bad not n = n
 stops_there now new l l' values fault.Long not n = n
 stops_there now new l l' values fault.Many not n = n
@@ -237,12 +237,12 @@ at_stop run F now new l0 l l' h0 h unsent how row values r n stops =
     let s : Report = record { bytes = tick_lines how run.budget row t; status = status_after t.outcome } in
     let all = r.turns ++ turn_of run values ∷ [] in
     told_some l0 l' (λ x z. Is run r.bytes all s x) (Is run r.bytes all s)
-    (told_both l0 l l' (Leads run.format run.kernel run.budget run.first now r.turns p) (λ y z. ahead now y ≡ onto (Ok values) (now.given + 1) (ahead new z)) (λ x z. Is run r.bytes all s x) r.told n.trace
+    (told_both l0 l l' (Leads run.format run.kernel run.budget run.first now r.turns p) (λ y z. trace_ahead now y ≡ onto (Ok values) (now.given + 1) (trace_ahead new z)) (λ x z. Is run r.bytes all s x) r.told n.trace
     (λ x y z led gave. record {
       report = led.report ∙ ap (λ t. behind_bytes r.bytes (report_from how run.kernel run.budget r.state row t)) gave
-          ∙ ap (behind_bytes r.bytes) (report_stops how run.kernel run.budget r.state row (now.given + 1) values (ahead new z) stops);
+          ∙ ap (behind_bytes r.bytes) (report_stops how run.kernel run.budget r.state row (now.given + 1) values (trace_ahead new z) stops);
       ran = led.ran ∙ ap (λ (t : Trace). r.turns ++ turns_from run.kernel run.budget r.state t.rows) gave
-          ∙ ap (λ ts. r.turns ++ ts) (turns_stop run.kernel run.budget r.state values (ahead new z).rows stops);
+          ∙ ap (λ ts. r.turns ++ ts) (turns_stop run.kernel run.budget r.state values (trace_ahead new z).rows stops);
     }))
     (λ x y i. i)
 
@@ -288,11 +288,11 @@ reached_more run F F' now new l0 l l' h0 h unsent unsent' how row values r n on 
       told = told_both l0 l l' (Leads run.format run.kernel run.budget run.first now r.turns p) _ _ r.told
           (told_and l l' _ _ n.trace (takes_told n.line now.held new.held new.ended l l' n.takes)) (λ x y z led gave. record {
             report = led.report ∙ ap (λ t. behind_bytes r.bytes (report_from how run.kernel run.budget r.state row t)) gave.0
-                ∙ ap (behind_bytes r.bytes) (report_step how run.kernel run.budget r.state row (now.given + 1) values (ahead new z) on)
-                ∙ behind_twice r.bytes (tick_lines how run.budget row t) (report_from (format_after how t.outputs) run.kernel run.budget t.state (row + 1) (ahead new z));
+                ∙ ap (behind_bytes r.bytes) (report_step how run.kernel run.budget r.state row (now.given + 1) values (trace_ahead new z) on)
+                ∙ behind_twice r.bytes (tick_lines how run.budget row t) (report_from (format_after how t.outputs) run.kernel run.budget t.state (row + 1) (trace_ahead new z));
             ran = led.ran ∙ ap (λ (t : Trace). r.turns ++ turns_from run.kernel run.budget r.state t.rows) gave.0
-                ∙ ap (λ ts. r.turns ++ ts) (turns_on run.kernel run.budget r.state values (ahead new z).rows on)
-                ∙ sym (append_assoc r.turns (turn_of run values ∷ []) (turns_from run.kernel run.budget t.state (ahead new z).rows));
+                ∙ ap (λ ts. r.turns ++ ts) (turns_on run.kernel run.budget r.state values (trace_ahead new z).rows on)
+                ∙ sym (append_assoc r.turns (turn_of run values ∷ []) (turns_from run.kernel run.budget t.state (trace_ahead new z).rows));
             stays = λ e. led.stays (n.stays e);
             taken = λ e. subst (λ (f : Form). Taken run.format run.kernel run.budget run.first new (record { state = t.state; next = row + 1; form = f; format = format_after how t.outputs; bytes = r.bytes ++ tick_lines how run.budget row t }) x z) (sym n.form)
                 (taken_more run now new p n.line values x y z (led.taken (n.stays e)) (gave.1 e) (sym (row_here run row now n.line r.stands) ∙ n.is) on);
@@ -303,7 +303,7 @@ reached_more run F F' now new l0 l l' h0 h unsent unsent' how row values r n on 
 
 -- the source failed while nothing waited for the sink
 pub failed : (run : Run) (F : List TickInput → Type 0) (now new : Reader) (l0 l l' h0 h : Option (List ℕ)) (unsent : List ℕ) (how : Format) (row : ℕ) (r : Reached run F now l0 l h0 h unsent how row) →
-    Waits now.held new.held now.ended new.ended l l' → unsent ≡ [] →
+    LacksLine now.held new.held now.ended new.ended l l' → unsent ≡ [] →
     (bytes : List ℕ) × Appends h0 h bytes × IfTold l0 l' (Led run.format run.kernel run.budget run.first bytes)
 failed run F now new l0 l l' h0 h unsent how row r n z =
     let p : Pace = record { state = r.state; next = row; form = now.form; format = how; bytes = r.bytes } in
@@ -324,7 +324,7 @@ failed run F now new l0 l l' h0 h unsent how row r n z =
 
 -- the last lines wait
 pub whole_now : (run : Run) (F F' : List TickInput → Type 0) (now : Reader) (l0 l h0 h : Option (List ℕ)) (unsent unsent' : List ℕ) (how : Format) (row : ℕ) (r : Reached run F now l0 l h0 h unsent how row) (turns : List TickInput) (s : Report)
-    (end : Status) → IfSome l0 (Is run r.bytes turns s) → unsent' ≡ unsent ++ s.bytes → end ≡ s.status → F' turns → IfSome l0 (IsWhole run.format run.kernel run.budget run.first F' h0 h unsent' end)
+    (end : Status) → IfSome l0 (Is run r.bytes turns s) → unsent' ≡ unsent ++ s.bytes → end ≡ s.status → F' turns → IfSome l0 (IsWholeReport run.format run.kernel run.budget run.first F' h0 h unsent' end)
 whole_now run F F' now l0 l h0 h unsent unsent' how row r turns s end i g e f =
     some_map l0 (Is run r.bytes turns s) _ i (λ x is. record {
       status = e ∙ sym (ap (λ (q : Report). q.status) is.report);
@@ -338,7 +338,7 @@ whole_now run F F' now l0 l h0 h unsent unsent' how row r turns s end i g e f =
 pub whole_stop : (run : Run) (F F' : List TickInput → Type 0) (now new : Reader) (l0 l l' h0 h : Option (List ℕ)) (unsent unsent' : List ℕ) (how : Format) (row : ℕ) (values : Row) (r : Reached run F now l0 l h0 h unsent how row) →
     Gave now new l l' values → (o : Outcome) (end : Status) → o ≡ (tick run.kernel run.budget r.state values).outcome → goes_on o ≡ false → end ≡ status_after o →
     unsent' ≡ unsent ++ tick_lines how run.budget row (tick run.kernel run.budget r.state values) → F' (r.turns ++ turn_of run values ∷ []) →
-    IfSome l0 (IsWhole run.format run.kernel run.budget run.first F' h0 h unsent' end)
+    IfSome l0 (IsWholeReport run.format run.kernel run.budget run.first F' h0 h unsent' end)
 whole_stop run F F' now new l0 l l' h0 h unsent unsent' how row values r n o end went stops ends g f =
     let t = tick run.kernel run.budget r.state values in
     whole_now run F F' now l0 l h0 h unsent unsent' how row r (r.turns ++ turn_of run values ∷ []) (record { bytes = tick_lines how run.budget row t; status = status_after t.outcome }) end
@@ -346,7 +346,7 @@ whole_stop run F F' now new l0 l l' h0 h unsent unsent' how row values r n o end
 
 -- before the next line what was printed is a front
 pub front_now : (run : Run) (F : List TickInput → Type 0) (now : Reader) (l0 l h0 h : Option (List ℕ)) (unsent : List ℕ) (how : Format) (row : ℕ) (r : Reached run F now l0 l h0 h unsent how row) →
-    IfSome l0 (IsFront run.format run.kernel run.budget run.first h0 h unsent)
+    IfSome l0 (IsReportFront run.format run.kernel run.budget run.first h0 h unsent)
 front_now run F now l0 l h0 h unsent how row r =
     some_map l0 _ _ (at_any run F now l0 l h0 h unsent how row r) (λ x k. record {
       sent = r.sent;
@@ -356,13 +356,13 @@ front_now run F now l0 l h0 h unsent how row r =
     })
 
 -- of what waits a front was written
-pub front_sent : (how : Format) (k : PlainKernel) (budget : ℕ) (first : Reader) (h0 h h2 : Option (List ℕ)) (waiting left : List ℕ) → IsFront how k budget first h0 h waiting left → AppendsFront h h2 waiting →
+pub front_sent : (how : Format) (k : PlainKernel) (budget : ℕ) (first : Reader) (h0 h h2 : Option (List ℕ)) (waiting left : List ℕ) → IsReportFront how k budget first h0 h waiting left → AppendsFront h h2 waiting →
     AppendsFront h0 h2 (report_rest how k budget first left).bytes
 front_sent how k budget first h0 h h2 waiting left f b =
     subst (AppendsFront h0 h2) (sym f.bytes) (front_longer h0 h2 (f.sent ++ waiting) f.rest (front_behind h0 h h2 f.sent waiting f.appended b))
 
 -- all that waits was written, or a front of it
-module _ (how : Format) (k : PlainKernel) (budget : ℕ) (first : Reader) (F : List TickInput → Type 0) (h0 h h2 : Option (List ℕ)) (waiting : List ℕ) (end : Status) (left : List ℕ) (w : IsWhole how k budget first F h0 h waiting end left) where
+module _ (how : Format) (k : PlainKernel) (budget : ℕ) (first : Reader) (F : List TickInput → Type 0) (h0 h h2 : Option (List ℕ)) (waiting : List ℕ) (end : Status) (left : List ℕ) (w : IsWholeReport how k budget first F h0 h waiting end left) where
   pub whole_given : Appends h h2 waiting → Given (report_rest how k budget first left) end h0 h2
   whole_given a = record { status = w.status; bytes = subst (Appends h0 h2) (sym w.bytes) (appends_both h0 h h2 w.sent waiting w.appended a) }
 
@@ -373,7 +373,7 @@ pub fell_since : (before mid now : ℕ) (d : Bool) → before ≤ mid → Fell m
 fell_since before mid now d le f = let r = f.rose in record { rose = omega arith; down = f.down }
 
 -- no whole line was held before
-pub waited : (held_old held_new : List ℕ) (was is : Bool) (a b : Option (List ℕ)) → Waits held_old held_new was is a b → HasLine held_old → ⊥
+pub waited : (held_old held_new : List ℕ) (was is : Bool) (a b : Option (List ℕ)) → LacksLine held_old held_new was is a b → HasLine held_old → ⊥
 waited held_old held_new was is a b w has =
     let at = position_or_len is_newline held_old in
     let yes : is_newline (get_or held_old at 0) ≡ true = passes_at_first is_newline held_old 0 has in

@@ -9,18 +9,18 @@ use Rattle.forec_kernel.specs.declared.shape.Outcome.{Outcome}
 use Rattle.forec_kernel.specs.declared.shape.Outcome.TheVariants as outcome
 use Rattle.forec_kernel.specs.Composed.{TickInput, state_after}
 use Rattle.forec_kernel.specs.Shapes.{PlainKernel}
-use Rattle.forec_kernel.specs.Ticks.{State, Fresh, Tick, tick, goes_on, run_from}
+use Rattle.forec_kernel.specs.Ticks.{TickState, Fresh, Tick, tick, goes_on, run_from}
 use Rattle.trace_runs.specs.Progress.{IsPut}
 use Rattle.trace_runs.specs.Ticking.{tick_after}
 use Rattle.trace_runs.specs.declared.status.Status.{Status}
 use Rattle.trace_runs.specs.declared.status.Status.TheVariants as status
-use Rattle.trace_runs.specs.Prints.{Says}
+use Rattle.trace_runs.specs.Prints.{PrintsReport}
 use Rattle.trace_runs.proofs.Following.{outcome_at, outputs_at, led_on}
 use Rattle.trace_runs.proofs.Printing.{said_as}
 use Rattle.trace_runs.specs.Report.{Report, last_outcome}
 use Rattle.trace_runs.specs.Workload.{zero_row, workload_ticks, values_sum, outputs_sum, ticks_report, ticked_report}
 use Rattle.trace_runs.proofs.Advancing.{run_on, run_stops}
-use Rattle.trace_runs.specs.WaitingRoom.{Gains}
+use Rattle.trace_runs.specs.WaitingRoom.{GainsBytes}
 use Rattle.trace_runs.specs.declared.waiting.Waiting.{Waiting}
 use Rattle.trace_runs.specs.declared.generated.TheConstants.{WORKLOAD_TICKS}
 
@@ -64,7 +64,7 @@ report_is threads k budget ticks o e f = ap (λ ts. ticks_report threads budget 
 pub record Gone (k : PlainKernel) (budget : ℕ) (Follows : List TickInput → Type 0) (count sum : ℕ) : Type 0 where
   pub turns : List TickInput
   pub follows : Follows turns
-  pub state : State
+  pub state : TickState
   pub led : state ≡ state_after k Fresh turns
   pub done : List Tick
   pub counted : length done ≡ count
@@ -132,7 +132,7 @@ module _ (k : PlainKernel) (budget : ℕ) (F : List TickInput → Type 0) (count
 -- ---- a tick that was made
 
 -- after these ticks, over a row that is 0 for each input
-module _ (k : PlainKernel) (budget : ℕ) (turns : List TickInput) (s : State) (led : s ≡ state_after k Fresh turns) (row : List ℤ) (are : row ≡ zero_row k.shape) where
+module _ (k : PlainKernel) (budget : ℕ) (turns : List TickInput) (s : TickState) (led : s ≡ state_after k Fresh turns) (row : List ℤ) (are : row ≡ zero_row k.shape) where
   abbrev made : TickInput
   made = record { row = row; budget = budget }
 
@@ -146,15 +146,15 @@ module _ (k : PlainKernel) (budget : ℕ) (turns : List TickInput) (s : State) (
   made_turns F f = subst (λ (r : List ℤ). F (turns ++ record { row = r; budget = budget } ∷ [])) are f
 
 -- a line was put, which is the report's
-pub put_report : (old first new : Waiting) (line : List ℕ) (r s : Report) (end : Status) → old ≡ first → r ≡ s → line ≡ s.bytes → end ≡ s.status → Gains old new line → IsPut first new r end
+pub put_report : (old first new : Waiting) (line : List ℕ) (r s : Report) (end : Status) → old ≡ first → r ≡ s → line ≡ s.bytes → end ≡ s.status → GainsBytes old new line → IsPut first new r end
 put_report old first new line r s end e f h st g = record {
   status = st ∙ ap (λ (q : Report). q.status) (sym f);
-  bytes = subst (λ (bytes : List ℕ). Gains first new bytes) (h ∙ ap (λ (q : Report). q.bytes) (sym f)) (subst (λ (w : Waiting). Gains w new line) e g);
+  bytes = subst (λ (bytes : List ℕ). GainsBytes first new bytes) (h ∙ ap (λ (q : Report). q.bytes) (sym f)) (subst (λ (w : Waiting). GainsBytes w new line) e g);
 }
 
 -- a report that alone was put is said
 pub put_said : {K : Type 0} (held : K → Option (List ℕ)) (lost : K → ℕ) (is_down : K → Bool) (old new : Waiting) (r : Report) (end : Status) (out out' : K) (result : Status) → IsPut old new r end → old.bytes.items ≡ [] → (end ≡ status.Usage → ⊥) →
-    Says held lost is_down (record { bytes = new.bytes.items; status = end }) (end ≡ status.Usage) out out' result → Says held lost is_down r ⊥ out out' result
+    PrintsReport held lost is_down (record { bytes = new.bytes.items; status = end }) (end ≡ status.Usage) out out' result → PrintsReport held lost is_down r ⊥ out out' result
 put_said held lost is_down old new r end out out' result put none other p =
     let bytes : new.bytes.items ≡ r.bytes = put.bytes.bytes_are ∙ ap (λ (b : List ℕ). b ++ r.bytes) none in
     let same : record { bytes = new.bytes.items; status = end } ≡ r = ap (λ (b : List ℕ). record { bytes = b; status = end }) bytes ∙ ap (λ (s : Status). record { bytes = r.bytes; status = s }) put.status in

@@ -4,7 +4,7 @@ use Rattle.std.specs.Io.KnownBytes.{Appends}
 use Rattle.forec_kernel.specs.Shapes.{PlainKernel}
 use Rattle.trace_rows.specs.Calls.{IfTold}
 use Rattle.trace_rows.specs.Lines.{whole_lines}
-use Rattle.trace_rows.specs.SourceReads.{Reads}
+use Rattle.trace_rows.specs.SourceReads.{ReadsBytes}
 use Rattle.trace_runs.specs.Report.{Report, printed_for}
 use Rattle.trace_runs.specs.declared.format.Format.{Format}
 use Rattle.trace_runs.specs.declared.status.Status.{Status}
@@ -47,4 +47,4 @@ GoesOn limit how k budget came = (bytes : List ℕ) × (printed_for limit how k 
 -- the trace was read for a kernel: each read was asked for while no line that had come whole stops the program
 abbrev pub ReadFor : {S : Type 0} → (S → Option (List ℕ)) → (S → ℕ) → (S → Bool) → ℕ → Format → PlainKernel → ℕ → S → S → Type 0
 ReadFor left faults down limit how k budget old new =
-    (given : List ℕ) × Reads left faults down (GoesOn limit how k budget) old given new
+    (given : List ℕ) × ReadsBytes left faults down (GoesOn limit how k budget) old given new

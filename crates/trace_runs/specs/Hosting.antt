@@ -18,11 +18,11 @@ pub record CodeFollows (c : PlainCode) (Ran : List TickInput → Type 0) (k : Pl
 
 -- the code is that of a host
 abbrev pub HostFollows : hosted.Hosted → PlainKernel → List TickInput → Type 0
-HostFollows h = CodeFollows (hosted.code_of h) (runs.HasRun h)
+HostFollows h = CodeFollows (hosted.code_of h) (runs.HostHasRun h)
 
 -- the code has all threads on one core
 abbrev pub OneFollows : single.Single → PlainKernel → List TickInput → Type 0
-OneFollows o = CodeFollows (single.code_of o) (single.HasRun o)
+OneFollows o = CodeFollows (single.code_of o) (single.OneCoreHasRun o)
 
 -- this was done with each kernel for which a code stands
 abbrev pub DidForEach : PlainCode → (PlainKernel → Status → Type 0) → Status → Type 0

@@ -1,11 +1,11 @@
 -- What a run of a kernel has to tell, whatever it is written as.
 use Rattle.std.specs.Prelude.{◌≡◌, ◌+◌, ◌-◌, ◌++◌, ◌∷◌, [], ℕ, ℤ, List, None, Some, Option}
 use Rattle.forec_kernel.specs.Shapes.{PlainKernel}
-use Rattle.forec_kernel.specs.Ticks.{State, Fresh, tick, run_from}
+use Rattle.forec_kernel.specs.Ticks.{TickState, Fresh, tick, run_from}
 use Rattle.forec_kernel.specs.declared.shape.Outcome.{Outcome}
 use Rattle.forec_kernel.specs.declared.shape.Outcome.TheVariants as outcome
 use Rattle.trace_rows.specs.Report.{end_words, trap_words, over_words, rows_words, row_words}
-use Rattle.trace_rows.specs.Trace.{Row, End, Trace, trace_of}
+use Rattle.trace_rows.specs.Trace.{Row, TraceEnd, Trace, trace_of}
 use Rattle.trace_rows.specs.declared.fault.RowFault.{RowFault}
 use Rattle.trace_runs.specs.Formats.{opening, tick_written, format_after, last_written}
 use Rattle.trace_runs.specs.KernelNames.{input_names}
@@ -20,7 +20,7 @@ told_after (outcome.Trapped place trap) outputs later = []
 told_after outcome.Over outputs later = []
 
 -- the outputs of the ticks over these rows that have any
-abbrev pub values_from : PlainKernel → ℕ → State → List Row → List (List ℤ)
+abbrev pub values_from : PlainKernel → ℕ → TickState → List Row → List (List ℤ)
 values_from k budget s [] = []
 values_from k budget s (row ∷ rows) = let t = tick k budget s row in told_after t.outcome t.outputs (values_from k budget t.state rows)
 
@@ -36,7 +36,7 @@ trace_words None n = rows_words (n - 1)
 trace_words (Some f) n = row_words n f
 
 -- the words of the last line of a run, of which these rows are left from tick n on
-abbrev pub words_from : PlainKernel → ℕ → State → ℕ → List Row → End → List ℕ
+abbrev pub words_from : PlainKernel → ℕ → TickState → ℕ → List Row → TraceEnd → List ℕ
 words_from k budget s n [] end = trace_words end.cause end.line
 words_from k budget s n (row ∷ rows) end =
     let t = tick k budget s row in words_after t.outcome budget n (words_from k budget t.state (n + 1) rows end)

@@ -21,5 +21,5 @@ pub record Prints {K : Type 0} (held : K → Option (List ℕ)) (faults : K → 
   pub usage : end ≡ status.Usage → Misused
 
 -- It prints this report, and reads nothing.
-abbrev pub Says : {K : Type 0} → (K → Option (List ℕ)) → (K → ℕ) → (K → Bool) → Report → Type 0 → K → K → Status → Type 0
-Says held faults down r Misused old new end = Prints held faults down ⊤ (λ q. q ≡ r) Misused ⊥ ⊥ old new end
+abbrev pub PrintsReport : {K : Type 0} → (K → Option (List ℕ)) → (K → ℕ) → (K → Bool) → Report → Type 0 → K → K → Status → Type 0
+PrintsReport held faults down r Misused old new end = Prints held faults down ⊤ (λ q. q ≡ r) Misused ⊥ ⊥ old new end

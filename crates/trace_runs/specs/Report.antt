@@ -5,8 +5,8 @@ use Rattle.forec_kernel.specs.declared.shape.Outcome.{Outcome}
 use Rattle.forec_kernel.specs.declared.shape.Outcome.TheVariants as outcome
 use Rattle.forec_kernel.specs.Composed.{TickInput}
 use Rattle.forec_kernel.specs.Shapes.{PlainKernel}
-use Rattle.forec_kernel.specs.Ticks.{State, Fresh, Tick, tick, goes_on, run_from}
-use Rattle.trace_rows.specs.Trace.{Row, Form, End, Trace, header_at, next_form, row_at, trace_of}
+use Rattle.forec_kernel.specs.Ticks.{TickState, Fresh, Tick, tick, goes_on, run_from}
+use Rattle.trace_rows.specs.Trace.{Row, Form, TraceEnd, Trace, header_at, next_form, row_at, trace_of}
 use Rattle.trace_rows.specs.declared.fault.RowFault.{RowFault}
 use Rattle.trace_runs.specs.Formats.{opening, tick_written, format_after, last_written}
 use Rattle.trace_runs.specs.KernelNames.{input_names}
@@ -56,7 +56,7 @@ status_after (outcome.Trapped place trap) = status.Trapped
 status_after outcome.Over = status.Over
 
 -- what comes after the lines of the ticks, of which the last went so
-abbrev pub ending : Format → Outcome → End → Report
+abbrev pub ending : Format → Outcome → TraceEnd → Report
 ending how outcome.Paused end = end_of_trace how end.cause end.line
 ending how outcome.Ended end = record { bytes = []; status = status.Done }
 ending how (outcome.Trapped place trap) end = record { bytes = []; status = status.Trapped }
@@ -66,7 +66,7 @@ abbrev pub behind_bytes : List ℕ → Report → Report
 behind_bytes bytes r = record { bytes = bytes ++ r.bytes; status = r.status }
 
 -- the report of a kernel from tick n on
-abbrev pub report_from : Format → PlainKernel → ℕ → State → ℕ → Trace → Report
+abbrev pub report_from : Format → PlainKernel → ℕ → TickState → ℕ → Trace → Report
 report_from how k budget s n trace =
     let ticks = run_from k budget s trace.rows in behind_bytes (lines_from how budget n ticks) (ending how (last_outcome ticks) trace.end)
 
@@ -77,7 +77,7 @@ trace_report limit how k budget bytes = behind_bytes (opening how) (report_from 
 -- ---- the ticks of a run
 
 -- the ticks of a kernel over rows, up to the first at which it doesn't go on: each with its row and its budget
-abbrev pub turns_from : PlainKernel → ℕ → State → List Row → List TickInput
+abbrev pub turns_from : PlainKernel → ℕ → TickState → List Row → List TickInput
 turns_from k budget s [] = []
 turns_from k budget s (row ∷ rows) =
     let t = tick k budget s row in
@@ -91,23 +91,23 @@ trace_turns limit k budget bytes = turns_from k budget Fresh (trace_of (input_na
 
 -- how far lines have led: the state, the number of the next tick, how its row is read and how its lines are written, and what was printed
 pub record Pace : Type 0 where
-  pub state : State
+  pub state : TickState
   pub next : ℕ
   pub form : Form
   pub format : Format
   pub bytes : List ℕ
 
-abbrev pub with_row : Result Row RowFault → (Row → Option Pace) → Option Pace
-with_row (Ok row) f = f row
-with_row (Err e) f = None
+abbrev pub pace_with_row : Result Row RowFault → (Row → Option Pace) → Option Pace
+pace_with_row (Ok row) f = f row
+pace_with_row (Err e) f = None
 
 abbrev pub printed_before : List ℕ → Pace → Pace
 printed_before bytes p = record { state = p.state; next = p.next; form = p.form; format = p.format; bytes = bytes ++ p.bytes }
 
 -- What these lines print, of which the first is line n and is read so, where each is a row and the program goes on at each.
-abbrev pub advance : (limit : ℕ) → Format → PlainKernel → ℕ → Form → State → ℕ → List (List ℕ) → Option Pace
+abbrev pub advance : (limit : ℕ) → Format → PlainKernel → ℕ → Form → TickState → ℕ → List (List ℕ) → Option Pace
 advance limit how k budget form s n [] = Some (record { state = s; next = n; form = form; format = how; bytes = [] })
-advance limit how k budget form s n (line ∷ lines) = with_row (row_at limit form n line) (λ row.
+advance limit how k budget form s n (line ∷ lines) = pace_with_row (row_at limit form n line) (λ row.
     let t = tick k budget s row in
     if goes_on t.outcome then
     option_map (printed_before (tick_lines how budget n t)) (advance limit (format_after how t.outputs) k budget (next_form form row) t.state (n + 1) lines)

@@ -6,7 +6,7 @@ use Rattle.trace_rows.specs.Reader.{Reader}
 use Rattle.trace_rows.specs.Trace.{row_width}
 use Rattle.trace_runs.specs.Formats.{names_in, opening}
 use Rattle.trace_runs.specs.KernelNames.{inputs_of, outputs_of}
-use Rattle.trace_runs.specs.WaitingRoom.{HasRoom}
+use Rattle.trace_runs.specs.WaitingRoom.{HasRoomFor}
 use Rattle.trace_runs.specs.declared.session.Session.{Session}
 
 -- it has the names and the places of the inputs and outputs of a shape, what stands before tick 1 waits, and there is room for lines
@@ -18,7 +18,7 @@ pub record IsSessionOf (shape : PlainShape) (s : Session) : Type 0 where
   pub image : length s.image.inputs.items ≡ length shape.inputs
   pub outputs : length s.image.outputs.items ≡ length shape.outputs
   pub opened : s.waiting.bytes.items ≡ opening s.waiting.format
-  pub ample : HasRoom s.waiting 128
+  pub ample : HasRoomFor s.waiting 128
   pub names : names_in s.waiting.format ≡ outputs_of shape
 
 -- the header was read for a session, and no row yet

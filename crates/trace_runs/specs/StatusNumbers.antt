@@ -3,14 +3,14 @@ use Rattle.std.specs.Prelude.{ℕ}
 use Rattle.trace_runs.specs.declared.status.Status.{Status}
 use Rattle.trace_runs.specs.declared.status.Status.TheVariants as status
 
-abbrev pub number_of : Status → ℕ
-number_of status.Done = 0
-number_of status.Usage = 2
-number_of status.Refused = 3
-number_of status.Trace = 4
-number_of status.Trapped = 5
-number_of status.Over = 6
-number_of status.ReadFault = 7
-number_of status.WriteFault = 8
-number_of status.NoMemory = 9
-number_of status.Full = 10
+abbrev pub status_number : Status → ℕ
+status_number status.Done = 0
+status_number status.Usage = 2
+status_number status.Refused = 3
+status_number status.Trace = 4
+status_number status.Trapped = 5
+status_number status.Over = 6
+status_number status.ReadFault = 7
+status_number status.WriteFault = 8
+status_number status.NoMemory = 9
+status_number status.Full = 10

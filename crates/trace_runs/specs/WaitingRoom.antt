@@ -4,12 +4,12 @@ use Rattle.trace_runs.specs.declared.format.Format.TheVariants as format
 use Rattle.trace_runs.specs.declared.waiting.Waiting.{Waiting}
 
 -- so many bytes more fit
-abbrev pub HasRoom : Waiting → ℕ → Type 0
-HasRoom w n = vec_len w.bytes + n ≤ vec_capacity w.bytes
+abbrev pub HasRoomFor : Waiting → ℕ → Type 0
+HasRoomFor w n = vec_len w.bytes + n ≤ vec_capacity w.bytes
 
 -- the lines of any tick fit
 abbrev pub HasTickRoom : Waiting → Type 0
-HasTickRoom w = HasRoom w (length w.line.items + 96)
+HasTickRoom w = HasRoomFor w (length w.line.items + 96)
 
 -- lines are written as in a report
 abbrev pub IsPlain : Waiting → Type 0
@@ -22,7 +22,7 @@ pub record AddsLines (old new : Waiting) (bytes : List ℕ) : Type 0 where
   pub capacity : vec_capacity old.bytes ≤ vec_capacity new.bytes
 
 -- these bytes wait too, and the rest is as before
-pub record Gains (old new : Waiting) (bytes : List ℕ) : Type 0 where
+pub record GainsBytes (old new : Waiting) (bytes : List ℕ) : Type 0 where
   pub bytes_are : new.bytes.items ≡ old.bytes.items ++ bytes
   pub format : new.format ≡ old.format
   pub line : length new.line.items ≡ length old.line.items

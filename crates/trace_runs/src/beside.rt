@@ -2,7 +2,7 @@
 
 ghost use Rattle.std.specs.Prelude.{◌≡◌, [], true, IfOk, OnErr};
 ghost use Rattle.core_host.specs.Hosted.{code_of, is_here, is_live};
-ghost use Rattle.core_host.specs.Runs.{HasRun};
+ghost use Rattle.core_host.specs.Runs.{HostHasRun};
 ghost use Rattle.trace_runs.specs.Hosting.{DidForEach};
 ghost use Rattle.trace_runs.specs.Ticking.{CanLead, DidFromStart};
 
@@ -285,7 +285,7 @@ pub fn lead_hosts<
     job: &mut J,
 ) -> Result<Status, OutOfMemory>
     requires root { is_here root 0 ≡ true }
-    requires none { HasRun root [] }
+    requires none { HostHasRun root [] }
     requires can { CanLead (J.can job.old) (code_of root).shape (is_live root ≡ true) true }
     ensures ok { IfOk result (DidForEach (code_of root.entry) (J.did job.old job.new)) }
     ensures err { OnErr result (job.new ≡ job.old) }

@@ -5,7 +5,7 @@ ghost use Rattle.forec_kernel.specs.Shapes.{PlainKernel};
 ghost use Rattle.trace_runs.specs.Ends.{IsOwn};
 ghost use Rattle.trace_runs.specs.Progress.{IsPut};
 ghost use Rattle.trace_runs.specs.Ticking.{Starts};
-ghost use Rattle.trace_runs.specs.WaitingRoom.{HasRoom, IsPlain};
+ghost use Rattle.trace_runs.specs.WaitingRoom.{HasRoomFor, IsPlain};
 ghost use Rattle.trace_runs.specs.Workload.{values_sum, zero_row, ticked_report};
 
 use crate::image::Image;
@@ -47,7 +47,7 @@ pub fn run_workload<T: Ticker, O: Serve, G: Gate, R: Wait>(
     requires zeros { image.old.inputs.items ≡ zero_row (T.shape ticker.old) }
     requires outputs { length image.old.outputs.items ≡ length (T.shape ticker.old).outputs }
     requires small { budget ≤ MAX_BUDGET }
-    requires room { HasRoom waiting.old 128 }
+    requires room { HasRoomFor waiting.old 128 }
     requires plain { IsPlain waiting.old }
     ensures own { IsOwn result }
     ensures usage { result ≢ Status.Usage }

@@ -10,7 +10,7 @@ ghost use Rattle.core_bells.specs.Ropes.{new_ropes};
 ghost use Rattle.trace_runs.specs.Hosting.{DidForEach};
 ghost use Rattle.trace_runs.specs.KernelNames.{run_format};
 ghost use Rattle.trace_runs.specs.Led.{RunsRows};
-ghost use Rattle.trace_runs.specs.Prints.{Says};
+ghost use Rattle.trace_runs.specs.Prints.{PrintsReport};
 ghost use Rattle.trace_runs.specs.Workload.{ticked_report};
 
 use crate::beside::lead_hosts;
@@ -176,7 +176,7 @@ pub fn host_workload<K: Sink, G: Gate + Sync, R: Threads + Wait + Sync>(
 ) -> Status
     requires placed { length placement.now.places ≡ length (plain_kernel kernel.now).threads }
     requires small { budget ≤ MAX_BUDGET }
-    ensures { Says K.held K.faults K.down (ticked_report threads (plain_kernel kernel.now) budget) ⊥ out.old out.new
+    ensures { PrintsReport K.held K.faults K.down (ticked_report threads (plain_kernel kernel.now) budget) ⊥ out.old out.new
         result }
 {
     let Ok(mut session) = Session::new(

@@ -4,7 +4,7 @@ ghost use Rattle.std.specs.Io.KnownBytes.{Appends};
 ghost use Rattle.trace_rows.specs.Calls.{Faults};
 ghost use Rattle.trace_runs.specs.Calls.{AppendsFront};
 ghost use Rattle.trace_runs.specs.Ends.{IsOwn};
-ghost use Rattle.trace_runs.specs.Prints.{Says};
+ghost use Rattle.trace_runs.specs.Prints.{PrintsReport};
 
 use crate::Status;
 use forec_base::{Failed, Sink};
@@ -28,7 +28,7 @@ pub fn write_all<K: Sink>(out: &mut K, bytes: &[u8]) -> Result<(), Failed>
 /// Writes the last line, and gives the status, which is a report's own.
 pub fn say<K: Sink>(out: &mut K, line: &[u8], status: Status) -> Status
     requires { IsOwn status }
-    ensures { Says K.held K.faults K.down (record { bytes = line.now; status = status }) (status ≡ Status.Usage)
+    ensures { PrintsReport K.held K.faults K.down (record { bytes = line.now; status = status }) (status ≡ Status.Usage)
         out.old out.new result }
 {
     match write_all(out, line) {

@@ -5,12 +5,12 @@ ghost use Rattle.forec_base.specs.Outside.{Fell};
 ghost use Rattle.forec_kernel.specs.Shapes.{PlainKernel};
 ghost use Rattle.trace_rows.specs.Calls.{IfTold, Faults};
 ghost use Rattle.trace_rows.specs.Reader.{HasLine};
-ghost use Rattle.trace_rows.specs.SourceReads.{Reads};
+ghost use Rattle.trace_rows.specs.SourceReads.{ReadsBytes};
 ghost use Rattle.trace_runs.specs.Calls.{AppendsFront};
 ghost use Rattle.trace_runs.specs.Ends.{IsOwn};
 ghost use Rattle.trace_runs.specs.Led.{RunsRows};
 ghost use Rattle.trace_runs.specs.Report.{status_after, trace_turns};
-ghost use Rattle.trace_runs.specs.Progress.{Led, GoesOnFrom, IsWhole, IsFront, report_rest};
+ghost use Rattle.trace_runs.specs.Progress.{Led, GoesOnFrom, IsWholeReport, IsReportFront, report_rest};
 ghost use Rattle.trace_runs.specs.Sessions.{IsSessionOf, AreRowsOf};
 ghost use Rattle.trace_runs.specs.Ticking.{Starts};
 ghost use Rattle.trace_runs.specs.WaitingRoom.{HasTickRoom};
@@ -71,7 +71,7 @@ fn run_rows<S: Source, K: Sink, T: Ticker, O: Serve, G: Gate, R: Wait>(
     requires ended { rows.old.ended ≡ true → IsAtEnd (S.left trace.old) }
     ensures own { IsOwn result → (k : PlainKernel) → Starts (T.shape ticker.old) (T.follows ticker.old) k
         → IfSome (S.left trace.old)
-        (IsWhole session.old.waiting.format k session.old.budget rows.old (T.follows ticker.new k)
+        (IsWholeReport session.old.waiting.format k session.old.budget rows.old (T.follows ticker.new k)
         (K.held out.old) (K.held out.new) session.new.waiting.bytes.items result) }
     ensures read { result ≡ Status.ReadFault → Fell (S.faults trace.old) (S.faults trace.new) (S.down trace.new) }
     ensures wanted { result ≡ Status.ReadFault → (k : PlainKernel)
@@ -88,11 +88,11 @@ fn run_rows<S: Source, K: Sink, T: Ticker, O: Serve, G: Gate, R: Wait>(
     ensures ready { result ≡ Status.NoMemory → T.ready ticker.old ≡ false }
     ensures memory { result ≡ Status.NoMemory → (k : PlainKernel) → Starts (T.shape ticker.old) (T.follows ticker.old) k
         → IfSome (S.left trace.old)
-        (IsFront session.old.waiting.format k session.old.budget rows.old (K.held out.old) (K.held out.new)
+        (IsReportFront session.old.waiting.format k session.old.budget rows.old (K.held out.old) (K.held out.new)
         session.new.waiting.bytes.items) }
     ensures trace { (k : PlainKernel) → Starts (T.shape ticker.old) (T.follows ticker.old) k
         → (given : List ℕ)
-        × Reads S.left S.faults S.down (GoesOnFrom session.old.waiting.format k session.old.budget rows.old)
+        × ReadsBytes S.left S.faults S.down (GoesOnFrom session.old.waiting.format k session.old.budget rows.old)
         trace.old given trace.new }
     ensures later { K.faults out.old ≤ K.faults out.new }
     ensures usage { result ≢ Status.Usage }

@@ -50,15 +50,15 @@ fn append(to: &mut Vec<u8>, bytes: &[u8])
 
 impl Waiting {
     ghost use Rattle.trace_runs.specs.Ends.{IsOwn};
-    ghost use Rattle.trace_runs.specs.Prints.{Says};
-    ghost use Rattle.trace_runs.specs.WaitingRoom.{HasRoom, HasTickRoom, AddsLines, Gains, IsPlain};
+    ghost use Rattle.trace_runs.specs.Prints.{PrintsReport};
+    ghost use Rattle.trace_runs.specs.WaitingRoom.{HasRoomFor, HasTickRoom, AddsLines, GainsBytes, IsPlain};
 
     /// What stands before tick 1 waits. There is room for the lines of a tick that are written so.
     pub fn new(alloc: Global, format: Format) -> Result<Waiting, OutOfMemory>
         requires { IsFit format }
         ensures opened { IfOk result (λ w. w.bytes.items ≡ opening w.format) }
         ensures format { IfOk result (λ w. w.format ≡ format) }
-        ensures ample { IfOk result (λ w. HasRoom w 128) }
+        ensures ample { IfOk result (λ w. HasRoomFor w 128) }
     {
         let opening = format.opening(alloc)?;
         let line = vec![in alloc; 0u8; format.room()]?;
@@ -76,7 +76,7 @@ impl Waiting {
     pub fn plain(alloc: Global) -> Result<Waiting, OutOfMemory>
         ensures empty { IfOk result (λ w. w.bytes.items ≡ []) }
         ensures plain { IfOk result IsPlain }
-        ensures ample { IfOk result (λ w. HasRoom w 128) }
+        ensures ample { IfOk result (λ w. HasRoomFor w 128) }
     {
         let names = Labels::new(alloc)?;
         Waiting::new(alloc, Format::Report { names })
@@ -91,16 +91,16 @@ impl Waiting {
 
     /// Adds bytes for which there is room.
     pub fn put(&mut self, bytes: &[u8])
-        requires { HasRoom self.old (length bytes.now) }
-        ensures { Gains self.old self.new bytes.now }
+        requires { HasRoomFor self.old (length bytes.now) }
+        ensures { GainsBytes self.old self.new bytes.now }
     {
         append(&mut self.bytes, bytes);
     }
 
     /// Adds a number in decimal.
     pub fn put_number(&mut self, number: u64)
-        requires { HasRoom self.old 20 }
-        ensures number { Gains self.old self.new (decimal number) }
+        requires { HasRoomFor self.old 20 }
+        ensures number { GainsBytes self.old self.new (decimal number) }
         ensures short { length (decimal number) ≤ 20 }
     {
         self.put(Buffer::new().format(number).as_bytes());
@@ -108,7 +108,7 @@ impl Waiting {
 
     /// Adds the lines of a tick whose outputs have these values.
     fn put_tick(&mut self, tick: u64, values: &[i32])
-        requires room { HasRoom self.old (length self.old.line.items) }
+        requires room { HasRoomFor self.old (length self.old.line.items) }
         requires values { length values.now ≡ length (names_in self.old.format) }
         ensures lines { AddsLines self.old self.new (tick_written self.old.format tick values.now) }
         ensures short { length (tick_written self.old.format tick values.now) ≤ length self.old.line.items }
@@ -120,8 +120,8 @@ impl Waiting {
 
     /// Adds what stands before the words of the last line.
     fn begin_last(&mut self)
-        requires { HasRoom self.old 9 }
-        ensures last { Gains self.old self.new (before_words self.old.format) }
+        requires { HasRoomFor self.old 9 }
+        ensures last { GainsBytes self.old self.new (before_words self.old.format) }
         ensures short { length (before_words self.old.format) ≤ 9 }
     {
         let words = self.format.before_words();
@@ -130,16 +130,16 @@ impl Waiting {
 
     /// Adds what stands behind the words of the last line.
     fn end_last(&mut self)
-        requires { HasRoom self.old 6 }
-        ensures { Gains self.old self.new (after_words self.old.format) }
+        requires { HasRoomFor self.old 6 }
+        ensures { GainsBytes self.old self.new (after_words self.old.format) }
     {
         let words = self.format.after_words();
         self.put(words);
     }
 
     fn put_end_words(&mut self, tick: u64)
-        requires { HasRoom self.old 24 }
-        ensures words { Gains self.old self.new (end_words tick) }
+        requires { HasRoomFor self.old 24 }
+        ensures words { GainsBytes self.old self.new (end_words tick) }
         ensures short { length (end_words tick) ≤ 24 }
     {
         self.put(b"end ");
@@ -147,8 +147,8 @@ impl Waiting {
     }
 
     fn put_end(&mut self, tick: u64)
-        requires { HasRoom self.old 96 }
-        ensures { Gains self.old self.new (last_written self.old.format (end_words tick)) }
+        requires { HasRoomFor self.old 96 }
+        ensures { GainsBytes self.old self.new (last_written self.old.format (end_words tick)) }
     {
         self.begin_last();
         self.put_end_words(tick);
@@ -156,8 +156,8 @@ impl Waiting {
     }
 
     fn put_trap_words(&mut self, tick: u64, place: Place, trap: Trap)
-        requires { HasRoom self.old 64 }
-        ensures words { Gains self.old self.new (trap_words tick place trap) }
+        requires { HasRoomFor self.old 64 }
+        ensures words { GainsBytes self.old self.new (trap_words tick place trap) }
         ensures short { length (trap_words tick place trap) ≤ 64 }
     {
         self.put(b"trap ");
@@ -171,8 +171,8 @@ impl Waiting {
 
     /// Adds the last line, of a tick that trapped here.
     pub fn put_trap(&mut self, tick: u64, place: Place, trap: Trap)
-        requires { HasRoom self.old 96 }
-        ensures { Gains self.old self.new (last_written self.old.format (trap_words tick place trap)) }
+        requires { HasRoomFor self.old 96 }
+        ensures { GainsBytes self.old self.new (last_written self.old.format (trap_words tick place trap)) }
     {
         self.begin_last();
         self.put_trap_words(tick, place, trap);
@@ -180,8 +180,8 @@ impl Waiting {
     }
 
     fn put_over_words(&mut self, tick: u64, budget: u64)
-        requires { HasRoom self.old 64 }
-        ensures words { Gains self.old self.new (over_words tick budget) }
+        requires { HasRoomFor self.old 64 }
+        ensures words { GainsBytes self.old self.new (over_words tick budget) }
         ensures short { length (over_words tick budget) ≤ 64 }
     {
         self.put(b"over ");
@@ -192,8 +192,8 @@ impl Waiting {
 
     /// Adds the last line, of a tick whose units passed the budget.
     pub fn put_over(&mut self, tick: u64, budget: u64)
-        requires { HasRoom self.old 96 }
-        ensures { Gains self.old self.new (last_written self.old.format (over_words tick budget)) }
+        requires { HasRoomFor self.old 96 }
+        ensures { GainsBytes self.old self.new (last_written self.old.format (over_words tick budget)) }
     {
         self.begin_last();
         self.put_over_words(tick, budget);
@@ -201,8 +201,8 @@ impl Waiting {
     }
 
     fn put_rows_words(&mut self, rows: u64)
-        requires { HasRoom self.old 25 }
-        ensures words { Gains self.old self.new (rows_words rows) }
+        requires { HasRoomFor self.old 25 }
+        ensures words { GainsBytes self.old self.new (rows_words rows) }
         ensures short { length (rows_words rows) ≤ 25 }
     {
         self.put(b"rows ");
@@ -211,8 +211,8 @@ impl Waiting {
 
     /// Adds the last line, of a trace that ended after so many rows.
     pub fn put_rows(&mut self, rows: u64)
-        requires { HasRoom self.old 96 }
-        ensures { Gains self.old self.new (last_written self.old.format (rows_words rows)) }
+        requires { HasRoomFor self.old 96 }
+        ensures { GainsBytes self.old self.new (last_written self.old.format (rows_words rows)) }
     {
         self.begin_last();
         self.put_rows_words(rows);
@@ -220,8 +220,8 @@ impl Waiting {
     }
 
     fn put_row_words(&mut self, row: u64, fault: RowFault)
-        requires { HasRoom self.old 64 }
-        ensures words { Gains self.old self.new (row_words row fault) }
+        requires { HasRoomFor self.old 64 }
+        ensures words { GainsBytes self.old self.new (row_words row fault) }
         ensures short { length (row_words row fault) ≤ 64 }
     {
         self.put(b"row ");
@@ -231,8 +231,8 @@ impl Waiting {
 
     /// Adds the last line, of a line of the trace that is no row.
     pub fn put_row(&mut self, row: u64, fault: RowFault)
-        requires { HasRoom self.old 96 }
-        ensures { Gains self.old self.new (last_written self.old.format (row_words row fault)) }
+        requires { HasRoomFor self.old 96 }
+        ensures { GainsBytes self.old self.new (last_written self.old.format (row_words row fault)) }
     {
         self.begin_last();
         self.put_row_words(row, fault);
@@ -242,8 +242,8 @@ impl Waiting {
     /// Adds the line of a workload of so many threads, whose outputs have this sum.
     #[tactic(auto, unfolding(crate::specs::Workload::workload_line))]
     pub fn put_workload(&mut self, threads: u32, sum: u32)
-        requires { HasRoom self.old 128 }
-        ensures { Gains self.old self.new (workload_line threads sum) }
+        requires { HasRoomFor self.old 128 }
+        ensures { GainsBytes self.old self.new (workload_line threads sum) }
     {
         self.put(b"gen ");
         self.put_number(u64::from(threads));
@@ -293,7 +293,7 @@ impl Waiting {
     /// Writes all that waits, and gives the status, which is a report's own.
     pub fn finish<K: Sink>(&mut self, out: &mut K, status: Status) -> Status
         requires { IsOwn status }
-        ensures says { Says K.held K.faults K.down (record { bytes = self.old.bytes.items; status = status }) (status
+        ensures says { PrintsReport K.held K.faults K.down (record { bytes = self.old.bytes.items; status = status }) (status
             ≡ Status.Usage)
             out.old out.new result }
         ensures memory { result ≢ Status.NoMemory }

@@ -20,7 +20,7 @@ pub struct WorkloadRun<'a, 'b, K> {
 
 impl<'a, 'b, K: Sink> Lead for WorkloadRun<'a, 'b, K> {
     ghost use Rattle.std.specs.Prelude.{◌≡◌};
-    ghost use Rattle.trace_runs.specs.Prints.{Says};
+    ghost use Rattle.trace_runs.specs.Prints.{PrintsReport};
     ghost use Rattle.trace_runs.specs.Sessions.{IsSessionOf};
     ghost use Rattle.trace_runs.specs.WaitingRoom.{IsPlain};
     ghost use Rattle.trace_runs.specs.Workload.{ticked_report, zero_row};
@@ -30,7 +30,7 @@ impl<'a, 'b, K: Sink> Lead for WorkloadRun<'a, 'b, K> {
         × IsPlain run.session.now.waiting };
 
     ghost did = { λ old new k end. (new.out.ghost_name ≡ old.out.ghost_name)
-        × Says K.held K.faults K.down (ticked_report old.threads k old.session.now.budget) ⊥ old.out.now new.out.now
+        × PrintsReport K.held K.faults K.down (ticked_report old.threads k old.session.now.budget) ⊥ old.out.now new.out.now
         end };
 
     fn lead<T: Ticker, O: Serve, G: Gate, R: Wait>(

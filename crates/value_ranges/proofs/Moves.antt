@@ -10,9 +10,9 @@ use Rattle.forec_kernel.specs.declared.shape.VarCopy.{VarCopy}
 use Rattle.forec_kernel.specs.Terms.{Expr, Branch, Stmt, Nop, Set, SetAt, PutAt, Clear, Seq, If, While, Pause, Par, Enter, Return}
 use Rattle.forec_kernel.specs.Shapes.{PlainKernel}
 use Rattle.forec_kernel.specs.Values.{Value, Gives, Raises, Values, AllGive, OneRaises, Setting, setting, Sight, vals, index_in}
-use Rattle.forec_kernel.specs.Texts.{Loop, After, Status, Text, Done, Run, Then, Turning, Resting, Fork, Held, Watch, Last, Threads, no_threads, child, child_of, text_of, some_running, all_over, first_trap, ended_are_gone, uses_of, words_of, params_of, body_of}
+use Rattle.forec_kernel.specs.Texts.{Loop, After, Status, RunningText, Done, Run, Then, Turning, Resting, Fork, Held, Watch, Last, Threads, no_threads, child, child_of, text_of, some_running, all_over, first_trap, ended_are_gone, uses_of, words_of, params_of, body_of}
 use Rattle.forec_kernel.specs.Combining.{Cost, Costs, Fails, join_cost}
-use Rattle.forec_kernel.specs.Steps.{Path, Owner, evaluated, Move, Finished, Halts, Moves, Traps, more_move, move_with, assigned, assigned_at, shared_at, turned, entered, Arguments, Ready, Refused, one_more_list, arguments_then, arguments, started, forked, statement_move, loop_move, combined, joined, move_before, move_watched, move_last, thread_after, place_at, path_below, text_move, child_move}
+use Rattle.forec_kernel.specs.Steps.{Path, Owner, evaluated, Move, Finished, Halts, Moves, Traps, more_move, move_with, assigned, assigned_at, shared_at, turned_loop, entered_abort, Arguments, Ready, Refused, one_more_list, arguments_then, arguments, started, forked, statement_move, loop_move, combined, joined, move_before, move_watched, move_last, thread_after, child_place, path_below, text_move, child_move}
 use Rattle.value_ranges.specs.Words.{AreWords, ExprWords, BranchesWords, StmtWords, KernelWords}
 use Rattle.value_ranges.proofs.Lists.{all_get, all_set, all_take}
 use Rattle.value_ranges.proofs.Values.{CopiesFit, cleared_fits, fresh_fits, ValueFits, ValuesFitAll, SightFits, SettingFits, val_fits, vals_fits, kernel_fits}
@@ -35,17 +35,17 @@ with_fits : (v : Value) (go : ℤ → Move) → ValueFits v → ((n : ℤ) → F
 with_fits (Gives n u) go h g = more_move_fits u (go n) (g n h)
 with_fits (Raises place trap u) go h g = tt
 
-chosen_fits : (b : Bool) (R S : Text) → TextFits R → TextFits S → TextFits (cond b R S)
+chosen_fits : (b : Bool) (R S : RunningText) → TextFits R → TextFits S → TextFits (cond b R S)
 chosen_fits true R S h g = h
 chosen_fits false R S h g = g
 
-entered_fits : (weak : Bool) (e : Expr) (body : Stmt) (n : ℤ) → ExprWords e → StmtWords body → TextFits (entered weak e body n)
+entered_fits : (weak : Bool) (e : Expr) (body : Stmt) (n : ℤ) → ExprWords e → StmtWords body → TextFits (entered_abort weak e body n)
 entered_fits false e body n h g = chosen_fits (is_zero n) (Watch false e (text_of body)) Done (h, text_fits body g) tt
 entered_fits true e body n h g =
     chosen_fits (is_zero n) (Watch true e (text_of body)) (Last (text_of body)) (h, text_fits body g) (text_fits body g)
 
 turned_fits : (loop : Loop) (left : Option ℕ) (words : List ℤ) (copies : List VarCopy) → LoopFits loop → AreWords words → CopiesFit copies →
-    MoveFits (turned loop left words copies)
+    MoveFits (turned_loop loop left words copies)
 turned_fits loop None words copies h w c = ((text_fits loop.body h.1, h), w, c)
 turned_fits loop (Some zero) words copies h w c = tt
 turned_fits loop (Some (suc m)) words copies h w c = ((text_fits loop.body h.1, h), w, c)
@@ -139,17 +139,17 @@ module _ (k : PlainKernel) (numbers : KernelWords k) where
         forked_fits bs (arguments (setting k) e bs) (arguments_fit (setting k) (kernel_fits k numbers) e sight_fits bs h)
     statement_fits (Enter weak false e body) h = ((h.0, text_fits body h.1), w, c)
     statement_fits (Enter weak true e body) h =
-        with_fits (evaluated o words copies e) (λ n. Moves (entered weak e body n) words copies 1) (evaluated_fits e h.0)
+        with_fits (evaluated o words copies e) (λ n. Moves (entered_abort weak e body n) words copies 1) (evaluated_fits e h.0)
         (λ n g. (entered_fits weak e body n h.0 h.1, w, c))
     statement_fits (Return e) h = tt
 
     loop_fits : (loop : Loop) → LoopFits loop → MoveFits (loop_move o words copies loop)
     loop_fits loop h =
         with_fits (evaluated o words copies loop.test)
-        (λ n. elim (is_zero n) [ true ↦ Moves Done words copies 1 | false ↦ turned loop loop.left words copies ]) (evaluated_fits loop.test h.0)
+        (λ n. elim (is_zero n) [ true ↦ Moves Done words copies 1 | false ↦ turned_loop loop loop.left words copies ]) (evaluated_fits loop.test h.0)
         (λ n g. after_test (is_zero n))
       where
-        after_test : (b : Bool) → MoveFits (elim b [ true ↦ Moves Done words copies 1 | false ↦ turned loop loop.left words copies ])
+        after_test : (b : Bool) → MoveFits (elim b [ true ↦ Moves Done words copies 1 | false ↦ turned_loop loop loop.left words copies ])
         after_test true = (tt, w, c)
         after_test false = turned_fits loop loop.left words copies h w c
 
@@ -191,7 +191,7 @@ module _ (k : PlainKernel) (numbers : KernelWords k) where
 
   -- ---- a step of a text, and of one child
 
-  child_after : (t : ℕ) (R : Text) (w : List ℤ) (c : List VarCopy) (st : Status) (rest : Threads) → ThreadsFit (child t R w c st rest) →
+  child_after : (t : ℕ) (R : RunningText) (w : List ℤ) (c : List VarCopy) (st : Status) (rest : Threads) → ThreadsFit (child t R w c st rest) →
       (m : Move) → MoveFits m →
       ThreadsFit (child_of (thread_after (record { number = t; text = R; words = w; copies = c; status = st }) m) rest)
   child_after t R w c st rest h Finished g = h
@@ -200,7 +200,7 @@ module _ (k : PlainKernel) (numbers : KernelWords k) where
   child_after t R w c st rest h (Traps place trap u) g = h
 
   mutual
-    pub move_fits : (path : Path) (uses : List ℕ) (words : List ℤ) (copies : List VarCopy) (R : Text) → AreWords words → CopiesFit copies →
+    pub move_fits : (path : Path) (uses : List ℕ) (words : List ℤ) (copies : List VarCopy) (R : RunningText) → AreWords words → CopiesFit copies →
         TextFits R → MoveFits (text_move k path uses words copies R)
     move_fits path uses words copies Done w c h = tt
     move_fits path uses words copies (Run s) w c h = statement_fits uses words copies w c s h
@@ -209,8 +209,8 @@ module _ (k : PlainKernel) (numbers : KernelWords k) where
     move_fits path uses words copies (Turning loop) w c h = loop_fits uses words copies w c loop h
     move_fits path uses words copies Resting w c h = tt
     move_fits path uses words copies (Fork cs) w c h =
-        let s = child_move k (path_below path cs) (place_at path cs) cs in
-        fork_fits uses words copies w c cs s.children s.units h (child_fits (path_below path cs) (place_at path cs) cs h) (some_running cs)
+        let s = child_move k (path_below path cs) (child_place path cs) cs in
+        fork_fits uses words copies w c cs s.children s.units h (child_fits (path_below path cs) (child_place path cs) cs h) (some_running cs)
     move_fits path uses words copies (Held cs) w c h = tt
     move_fits path uses words copies (Watch weak e R) w c h =
         watched_fits uses words copies w c weak e (text_move k path uses words copies R) h.0 (move_fits path uses words copies R w c h.1)

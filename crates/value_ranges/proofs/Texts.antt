@@ -2,7 +2,7 @@
 use Rattle.std.proofs.Common.{ℕ, ◌==◌, Bool, true, false, cond, List, [], ◌∷◌, FitsSigned, w32}
 use Rattle.forec_kernel.specs.declared.shape.VarCopy.{VarCopy}
 use Rattle.forec_kernel.specs.Terms.{Stmt, Nop, Set, SetAt, PutAt, Clear, Seq, If, While, Pause, Par, Enter, Return, Stmts, no_stmts, more_stmts}
-use Rattle.forec_kernel.specs.Texts.{Loop, After, Go_on, Again, Text, Done, Run, Then, Turning, Resting, Fork, Held, Watch, Last, Threads, no_threads, child, text_of, texts_of, then_list, after_text, ended_are_gone, handed_down, put_copy}
+use Rattle.forec_kernel.specs.Texts.{Loop, After, Go_on, Again, RunningText, Done, Run, Then, Turning, Resting, Fork, Held, Watch, Last, Threads, no_threads, child, text_of, texts_of, then_list, after_text, ended_are_gone, handed_down, put_copy}
 use Rattle.value_ranges.specs.Words.{AreWords, ExprWords, StmtWords, StmtsWords}
 use Rattle.value_ranges.proofs.Values.{CopiesFit, copy_fits}
 
@@ -14,7 +14,7 @@ AfterFits (Go_on list) = StmtsWords list
 AfterFits (Again loop) = LoopFits loop
 
 abbrev mutual
-  pub TextFits : Text → Type 0
+  pub TextFits : RunningText → Type 0
   TextFits Done = Unit {0}
   TextFits (Run s) = StmtWords s
   TextFits (Then R a) = TextFits R × AfterFits a
@@ -31,7 +31,7 @@ abbrev mutual
 
 -- ---- reading a statement as a text
 
-then_list_fits : (R : Text) (rest : Stmts) → TextFits R → StmtsWords rest → TextFits (then_list R rest)
+then_list_fits : (R : RunningText) (rest : Stmts) → TextFits R → StmtsWords rest → TextFits (then_list R rest)
 then_list_fits R no_stmts h g = h
 then_list_fits R (more_stmts s rest) h g = (h, g)
 

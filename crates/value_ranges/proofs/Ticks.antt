@@ -8,7 +8,7 @@ use Rattle.forec_kernel.specs.Shapes.{PlainKernel}
 use Rattle.forec_kernel.specs.Texts.{Thread, uses_of, words_of, body_of, put_copy}
 use Rattle.forec_kernel.specs.Size.{text_size}
 use Rattle.forec_kernel.specs.Steps.{Move, Finished, Halts, Moves, Traps, thread_move, woken}
-use Rattle.forec_kernel.specs.Ticks.{Going, is_stopped, moved, State, Fresh, After_tick, start_copies, unmarked, with_row, begin, Tick, values_of, outcome_of, concluded, free_steps, finished, tick, goes_on, run_from}
+use Rattle.forec_kernel.specs.Ticks.{Going, is_stopped, moved, TickState, Fresh, After_tick, start_copies, unmarked, with_row, begin, Tick, values_of, outcome_of, concluded, free_steps, finished, tick, goes_on, run_from}
 use Rattle.value_ranges.specs.Words.{AreWords, KernelWords}
 use Rattle.value_ranges.specs.Laws.{FitReached, at_first, after, TickWords, TicksFit, ValuesFit}
 use Rattle.value_ranges.proofs.Values.{CopiesFit, copy_fits, fresh_fits}
@@ -49,7 +49,7 @@ pub record ThreadFits (t : Thread) : Type 0 where
   pub words : AreWords t.words
   pub copies : CopiesFit t.copies
 
-abbrev StateFits : State → Type 0
+abbrev StateFits : TickState → Type 0
 StateFits Fresh = Unit {0}
 StateFits (After_tick t) = ThreadFits t
 
@@ -89,7 +89,7 @@ module _ (k : PlainKernel) (numbers : KernelWords k) where
   finished_fits stop (suc left) g h =
       free_fits stop (finished k stop left) (λ g' h'. finished_fits stop left g' h') (suc (text_size g.thread.text)) g h
 
-  begin_fits : (old : State) (row : List ℤ) → StateFits old → AreWords row → ThreadFits (begin k old row).thread
+  begin_fits : (old : TickState) (row : List ℤ) → StateFits old → AreWords row → ThreadFits (begin k old row).thread
   begin_fits Fresh row h r =
       record {
         text = text_fits (body_of k 0) (body_fits k numbers 0);
@@ -107,7 +107,7 @@ module _ (k : PlainKernel) (numbers : KernelWords k) where
         copies = c;
       }
 
-  concluded_fits : (budget : ℕ) (old : State) (g : Going) → StateFits old → ThreadFits g.thread → TickFits k (concluded k budget old g)
+  concluded_fits : (budget : ℕ) (old : TickState) (g : Going) → StateFits old → ThreadFits g.thread → TickFits k (concluded k budget old g)
   concluded_fits budget old g h f = pick (nat_lt budget g.units)
     where
       pick : (b : Bool) →
@@ -130,7 +130,7 @@ module _ (k : PlainKernel) (numbers : KernelWords k) where
             state = f;
           }
 
-  tick_fits : (budget : ℕ) (old : State) (row : List ℤ) → StateFits old → AreWords row → TickFits k (tick k budget old row)
+  tick_fits : (budget : ℕ) (old : TickState) (row : List ℤ) → StateFits old → AreWords row → TickFits k (tick k budget old row)
   tick_fits budget old row h r =
       let g = begin k old row in
       concluded_fits budget old (finished k (is_stopped budget) (suc budget) g) h
@@ -138,11 +138,11 @@ module _ (k : PlainKernel) (numbers : KernelWords k) where
 
   -- ---- runs
 
-  reached_fits : (s : State) → FitReached k s → StateFits s
+  reached_fits : (s : TickState) → FitReached k s → StateFits s
   reached_fits s at_first = tt
   reached_fits s (after budget old row r f) = (tick_fits budget old row (reached_fits old r) f).state
 
-  run_fits : (budget : ℕ) (rows : List (List ℤ)) (old : State) → StateFits old → AllByRecursion AreWords rows →
+  run_fits : (budget : ℕ) (rows : List (List ℤ)) (old : TickState) → StateFits old → AllByRecursion AreWords rows →
       AllByRecursion (TickWords k) (run_from k budget old rows)
   run_fits budget [] old h r = tt
   run_fits budget (row ∷ rows) old h r =

@@ -9,7 +9,7 @@ use Rattle.forec_kernel.specs.declared.terms.Spot.TheVariants as spot
 use Rattle.forec_kernel.specs.declared.shape.VarCopy.{VarCopy}
 use Rattle.forec_kernel.specs.Terms.{Expr, Num, Local, LocalAt, Var, SharedAt, TableAt, Un, Bin, And, Or, Choose, Call, Exprs, no_exprs, more_exprs, Stmt, Nop, Set, SetAt, PutAt, Clear, Seq, If, While, Pause, Par, Enter, Return, Stmts, no_stmts, more_stmts}
 use Rattle.forec_kernel.specs.Shapes.{PlainKernel}
-use Rattle.forec_kernel.specs.Values.{word, cleared, copy_of, index_in, Value, Gives, Raises, more_units, value_then, Values, AllGive, OneRaises, one_more, first_then, values_then, Setting, setting, Sight, divided, at_index, val, vals, Flow, Goes, Returns, Breaks, more_flow, flow_with, flow_then, words_alone, stored_at, stored, turns, flow, flows, returned, fresh_words, function_words, call_within}
+use Rattle.forec_kernel.specs.Values.{word, cleared, copy_of, index_in, Value, Gives, Raises, more_units, value_then, Values, AllGive, OneRaises, one_more, first_then, values_then, Setting, setting, Sight, divided, at_index, val, vals, Flow, Goes, Returns, Breaks, more_flow, flow_with, flow_then, words_alone, stored_at, stored_flow, turns, flow, flows, flow_value, fresh_words, function_words, call_within}
 use Rattle.value_ranges.specs.Words.{AreWords, ExprWords, ExprsWords, StmtWords, StmtsWords, KernelWords}
 use Rattle.value_ranges.proofs.Numbers.{zero_fits, one_fits, truth_fits, unary_fits, OptionFits, binary_fits}
 use Rattle.value_ranges.proofs.Lists.{all_get, all_set, all_append, all_replicate}
@@ -170,7 +170,7 @@ either_flow : (b : Bool) (p q : Flow) → FlowFits p → FlowFits q → FlowFits
 either_flow true p q hp hq = hp
 either_flow false p q hp hq = hq
 
-stored_fits : (words : List ℤ) (to : Spot) (n : ℤ) → AreWords words → FitsSigned w32 n → FlowFits (stored words to n)
+stored_fits : (words : List ℤ) (to : Spot) (n : ℤ) → AreWords words → FitsSigned w32 n → FlowFits (stored_flow words to n)
 stored_fits words (spot.Local slot) n h g = all_set (FitsSigned w32) words slot n h g
 stored_fits words (spot.Variable v) n h g = h
 
@@ -204,7 +204,7 @@ module _ (s : Setting) (fits : SettingFits s) where
     flow_fits : (x : Stmt) → StmtWords x → (words : List ℤ) → AreWords words → FlowFits (flow s x words)
     flow_fits Nop w words h = h
     flow_fits (Set to e) w words h =
-        flow_with_fits (val s (words_alone words) e) (λ n. stored words to n) (alone words h e w) (λ n g. stored_fits words to n h g)
+        flow_with_fits (val s (words_alone words) e) (λ n. stored_flow words to n) (alone words h e w) (λ n g. stored_fits words to n h g)
     flow_fits (SetAt slot n i e place) w words h =
         flow_with_fits (val s (words_alone words) i)
         (λ k. flow_with (val s (words_alone words) e) (λ x. stored_at words slot (index_in n k) x place)) (alone words h i w.0)
@@ -233,7 +233,7 @@ module _ (s : Setting) (fits : SettingFits s) where
     flows_fits (more_stmts x rest) w words h =
         flow_then_fits (flow s x words) (λ w'. flows s rest w') (flow_fits x w.0 words h) (λ w' h'. flows_fits rest w.1 w' h')
 
-returned_fits : (r : Flow) → FlowFits r → ValueFits (returned r)
+returned_fits : (r : Flow) → FlowFits r → ValueFits (flow_value r)
 returned_fits (Goes words u) h = zero_fits
 returned_fits (Returns n u) h = h
 returned_fits (Breaks place trap u) h = tt

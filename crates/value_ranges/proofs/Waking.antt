@@ -5,7 +5,7 @@ use Rattle.forec_kernel.specs.declared.shape.VarCopy.{VarCopy}
 use Rattle.forec_kernel.specs.Terms.{Expr}
 use Rattle.forec_kernel.specs.Shapes.{PlainKernel}
 use Rattle.forec_kernel.specs.Values.{Value, Gives, Raises}
-use Rattle.forec_kernel.specs.Texts.{After, Go_on, Again, Running, Paused, Ended, Gone, Trapped, Text, Done, Run, Then, Turning, Resting, Fork, Held, Watch, Last, Threads, no_threads, child, uses_of, handed_down}
+use Rattle.forec_kernel.specs.Texts.{After, Go_on, Again, Running, Paused, Ended, Gone, Trapped, RunningText, Done, Run, Then, Turning, Resting, Fork, Held, Watch, Last, Threads, no_threads, child, uses_of, handed_down}
 use Rattle.forec_kernel.specs.Steps.{evaluated, Woken, Wakes, Stays, more_woken, woken_in, woken_with, refilled, watched_on, text_if, woken, woken_children}
 use Rattle.value_ranges.specs.Words.{ExprWords}
 use Rattle.value_ranges.proofs.Values.{CopiesFit}
@@ -19,7 +19,7 @@ more_woken_fits : (u : ℕ) (r : Woken) → WokenFits r → WokenFits (more_woke
 more_woken_fits u (Wakes R v) h = h
 more_woken_fits u (Stays place trap v) h = tt
 
-woken_in_fits : (f : Text → Text) (r : Woken) → ((R : Text) → TextFits R → TextFits (f R)) → WokenFits r → WokenFits (woken_in f r)
+woken_in_fits : (f : RunningText → RunningText) (r : Woken) → ((R : RunningText) → TextFits R → TextFits (f R)) → WokenFits r → WokenFits (woken_in f r)
 woken_in_fits f (Wakes R u) g h = g R h
 woken_in_fits f (Stays place trap u) g h = tt
 
@@ -43,13 +43,13 @@ watched_on_fits true e n r h g =
     (woken_in_fits Last r (λ R f. f) g)
 
 -- what a text becomes, or stays
-pub text_if_fits : (R : Text) (r : Woken) → TextFits R → WokenFits r → TextFits (text_if R r)
+pub text_if_fits : (R : RunningText) (r : Woken) → TextFits R → WokenFits r → TextFits (text_if R r)
 text_if_fits R (Wakes R' u) h g = g
 text_if_fits R (Stays place trap u) h g = h
 
 module _ (k : PlainKernel) where
   mutual
-    pub woken_fits : (uses : List ℕ) (words : List ℤ) (copies : List VarCopy) (R : Text) → CopiesFit copies → TextFits R →
+    pub woken_fits : (uses : List ℕ) (words : List ℤ) (copies : List VarCopy) (R : RunningText) → CopiesFit copies → TextFits R →
         WokenFits (woken k uses words copies R)
     woken_fits uses words copies Done c h = tt
     woken_fits uses words copies (Run s) c h = h

@@ -9,9 +9,9 @@ use Rattle.forec_base.specs.declared.Trap.TheVariants as trap
 use Rattle.forec_kernel.specs.declared.shape.Outcome.{Outcome}
 use Rattle.forec_kernel.specs.declared.shape.Outcome.TheVariants as outcome
 use Rattle.forec_kernel.specs.Shapes.{PlainKernel}
-use Rattle.forec_kernel.specs.Ticks.{State, tick}
+use Rattle.forec_kernel.specs.Ticks.{TickState, tick}
 use Rattle.trace_rows.specs.Report.{end_words, trap_word, trap_words, over_words, rows_words, fault_word, row_words}
-use Rattle.trace_rows.specs.Trace.{Row, End}
+use Rattle.trace_rows.specs.Trace.{Row, TraceEnd}
 use Rattle.trace_rows.specs.declared.fault.RowFault.{RowFault}
 use Rattle.trace_rows.specs.declared.fault.RowFault.TheVariants as fault
 use Rattle.trace_runs.specs.OneRun.{words_after, trace_words, words_from}
@@ -111,7 +111,7 @@ line_after outcome.Ended budget n later h = end_line n
 line_after (outcome.Trapped place t) budget n later h = trap_line n place t
 line_after outcome.Over budget n later h = over_line n budget
 
-pub line_from : (k : PlainKernel) (budget : ℕ) (s : State) (n : ℕ) (rows : List Row) (end : End) → IsLine (words_from k budget s n rows end)
+pub line_from : (k : PlainKernel) (budget : ℕ) (s : TickState) (n : ℕ) (rows : List Row) (end : TraceEnd) → IsLine (words_from k budget s n rows end)
 line_from k budget s n [] end = trace_line end.cause end.line
 line_from k budget s n (row ∷ rows) end =
     let t = tick k budget s row in line_after t.outcome budget n (words_from k budget t.state (n + 1) rows end) (line_from k budget t.state (n + 1) rows end)

@@ -7,9 +7,9 @@ use Rattle.std.specs.Str.{bytes_eq}
 use Rattle.std.proofs.lemmas.Bool.{leb-true, ltb-false}
 use Rattle.trace_rows.specs.Changes.{is_equals, change_in, changed_row, row_behind}
 use Rattle.trace_rows.specs.Lines.{lines_of}
-use Rattle.trace_rows.specs.Numbers.{magnitude_of, positive, negative, number_of}
-use Rattle.trace_rows.specs.Trace.{Row, Trace, Form, InOrder, Changes, most_bytes, names_each, places_of, is_mark, first_form, form_of, or_bad, header_at, numbers_of, arranged, numbers_in, row_of, row_at, next_form, form_after, stop, onto, rows_from, behind, rows_of_lines, trace_of}
-use Rattle.trace_rows.specs.Words.{words_of}
+use Rattle.trace_rows.specs.Numbers.{magnitude_of, positive, negative, word_number}
+use Rattle.trace_rows.specs.Trace.{Row, Trace, Form, InOrder, Changes, most_line_bytes, names_each, places_of, is_mark, first_form, form_of, or_bad, header_at, word_numbers, arranged, numbers_in, row_of, row_at, next_form, form_after, stop, onto, rows_from, behind, rows_of_lines, trace_of}
+use Rattle.trace_rows.specs.Words.{line_words}
 use Rattle.trace_rows.specs.declared.fault.RowFault.{RowFault}
 use Rattle.trace_rows.specs.declared.fault.RowFault.TheVariants as fault
 use Rattle.value_ranges.specs.Words.{AreWords}
@@ -42,7 +42,7 @@ negative_fits (Some m) n e = by (nat_le m 2147483648) refl e
     by true h e = subst (FitsSigned w32) (some_is (neg_ℤ (pos m)) n e) (least_fits m (leb-true m 2147483648 h))
     by false h e = absurd (let bad : None ≡ Some n = e in cc)
 
-number_fits : (word : List ℕ) (n : ℤ) → number_of word ≡ Some n → FitsSigned w32 n
+number_fits : (word : List ℕ) (n : ℤ) → word_number word ≡ Some n → FitsSigned w32 n
 number_fits [] n e = absurd (let bad : None ≡ Some n = e in cc)
 number_fits (b ∷ bs) n e = by (b == 45) e
   where
@@ -52,11 +52,11 @@ number_fits (b ∷ bs) n e = by (b == 45) e
 
 -- ---- rows of numbers in order
 
-numbers_fit : (words : List (List ℕ)) (ns : List ℤ) → numbers_of words ≡ Some ns → AreWords ns
+numbers_fit : (words : List (List ℕ)) (ns : List ℤ) → word_numbers words ≡ Some ns → AreWords ns
 numbers_fit [] ns e = subst AreWords (some_is [] ns e) tt
-numbers_fit (word ∷ words) ns e = by (numbers_fit words) (number_of word) refl (numbers_of words) refl e
+numbers_fit (word ∷ words) ns e = by (numbers_fit words) (word_number word) refl (word_numbers words) refl e
   where
-    by : ((xs : List ℤ) → numbers_of words ≡ Some xs → AreWords xs) → (m : Option ℤ) → number_of word ≡ m → (ms : Option (List ℤ)) → numbers_of words ≡ ms → option_and_then (λ x. option_map (λ xs. x ∷ xs) ms) m ≡ Some ns → AreWords ns
+    by : ((xs : List ℤ) → word_numbers words ≡ Some xs → AreWords xs) → (m : Option ℤ) → word_number word ≡ m → (ms : Option (List ℤ)) → word_numbers words ≡ ms → option_and_then (λ x. option_map (λ xs. x ∷ xs) ms) m ≡ Some ns → AreWords ns
     by rest None h ms g e = absurd (let bad : None ≡ Some ns = e in cc)
     by rest (Some x) h None g e = absurd (let bad : None ≡ Some ns = e in cc)
     by rest (Some x) h (Some xs) g e = subst AreWords (some_is (x ∷ xs) ns e) (number_fits word x h, rest xs g)
@@ -78,9 +78,9 @@ set_fits (x ∷ row) zero n h f = (f, h.1)
 set_fits (x ∷ row) (suc i) n h f = (h.0, set_fits row i n h.1 f)
 
 change_fits : (names : List (List ℕ)) (word : List ℕ) (c : ℕ × ℤ) → change_in names word ≡ Some c → FitsSigned w32 c.1
-change_fits names word c e = by (position (bytes_eq (before_first is_equals word)) names) (number_of (after_first is_equals word)) refl e
+change_fits names word c e = by (position (bytes_eq (before_first is_equals word)) names) (word_number (after_first is_equals word)) refl e
   where
-    by : (at : Option ℕ) (m : Option ℤ) → number_of (after_first is_equals word) ≡ m → option_and_then (λ i. option_map (λ n. (i, n)) m) at ≡ Some c → FitsSigned w32 c.1
+    by : (at : Option ℕ) (m : Option ℤ) → word_number (after_first is_equals word) ≡ m → option_and_then (λ i. option_map (λ n. (i, n)) m) at ≡ Some c → FitsSigned w32 c.1
     by None m h e = absurd (let bad : None ≡ Some c = e in cc)
     by (Some i) None h e = absurd (let bad : None ≡ Some c = e in cc)
     by (Some i) (Some n) h e = let same : (i, n) ≡ c = cc in subst (λ (d : ℕ × ℤ). FitsSigned w32 d.1) same (number_fits (after_first is_equals word) n h)
@@ -106,9 +106,9 @@ FormWords (InOrder places) = Unit {0}
 FormWords (Changes names last) = AreWords last
 
 row_fits : (form : Form) (words : List (List ℕ)) (row : Row) → FormWords form → row_of form words ≡ Some row → AreWords row
-row_fits (InOrder places) words row h e = by (length words == length places) (numbers_of words) refl e
+row_fits (InOrder places) words row h e = by (length words == length places) (word_numbers words) refl e
   where
-    by : (b : Bool) (m : Option (List ℤ)) → numbers_of words ≡ m → option_map (arranged places) (if b then m else None) ≡ Some row → AreWords row
+    by : (b : Bool) (m : Option (List ℤ)) → word_numbers words ≡ m → option_map (arranged places) (if b then m else None) ≡ Some row → AreWords row
     by false m g e = absurd (let bad : None ≡ Some row = e in cc)
     by true None g e = absurd (let bad : None ≡ Some row = e in cc)
     by true (Some ns) g e = subst AreWords (some_is (arranged places ns) row e) (arranged_fit places ns (numbers_fit words ns g))
@@ -124,16 +124,16 @@ record GoodRow (limit n : ℕ) (row : Row) : Type 0 where
   words : AreWords row
 
 good_row : (limit : ℕ) (form : Form) (n : ℕ) (line : List ℕ) (row : Row) → FormWords form → row_at limit form n line ≡ Ok row → GoodRow limit n row
-good_row limit form n line row h e = by (nat_lt limit n) refl (nat_lt most_bytes (length line)) (row_of form (words_of line)) refl e
+good_row limit form n line row h e = by (nat_lt limit n) refl (nat_lt most_line_bytes (length line)) (row_of form (line_words line)) refl e
   where
-    by : (many : Bool) → nat_lt limit n ≡ many → (long : Bool) (r : Option Row) → row_of form (words_of line) ≡ r →
+    by : (many : Bool) → nat_lt limit n ≡ many → (long : Bool) (r : Option Row) → row_of form (line_words line) ≡ r →
         (if many then Err fault.Many else (if long then Err fault.Long else or_bad r)) ≡ Ok row → GoodRow limit n row
     by true g long r w e = absurd (let bad : Err fault.Many ≡ Ok row = e in cc)
     by false g true r w e = absurd (let bad : Err fault.Long ≡ Ok row = e in cc)
     by false g false None w e = absurd (let bad : Err fault.Bad ≡ Ok row = e in cc)
     by false g false (Some x) w e =
         let same : x ≡ row = (let f : Ok x ≡ Ok row = e in cc) in
-        record { within = ltb-false limit n g; words = row_fits form (words_of line) row h (w ∙ ap Some same) }
+        record { within = ltb-false limit n g; words = row_fits form (line_words line) row h (w ∙ ap Some same) }
 
 -- the rows from line n on are at most what is left of the limit, and their numbers fit
 pub record GoodRows (limit n : ℕ) (rows : List Row) : Type 0 where
@@ -168,12 +168,12 @@ form_fits inputs words form e = by (is_mark words) (names_each inputs words) e
     by false false e = absurd (let bad : None ≡ Some form = e in cc)
 
 header_fits : (inputs : List (List ℕ)) (line : List ℕ) (form : Form) → header_at inputs line ≡ Ok form → FormWords form
-header_fits inputs line form e = by (nat_lt most_bytes (length line)) (form_of inputs (words_of line)) refl e
+header_fits inputs line form e = by (nat_lt most_line_bytes (length line)) (form_of inputs (line_words line)) refl e
   where
-    by : (long : Bool) (f : Option Form) → form_of inputs (words_of line) ≡ f → (if long then Err fault.Long else or_bad f) ≡ Ok form → FormWords form
+    by : (long : Bool) (f : Option Form) → form_of inputs (line_words line) ≡ f → (if long then Err fault.Long else or_bad f) ≡ Ok form → FormWords form
     by true f g e = absurd (let bad : Err fault.Long ≡ Ok form = e in cc)
     by false None g e = absurd (let bad : Err fault.Bad ≡ Ok form = e in cc)
-    by false (Some x) g e = let same : x ≡ form = (let f : Ok x ≡ Ok form = e in cc) in subst FormWords same (form_fits inputs (words_of line) x g)
+    by false (Some x) g e = let same : x ≡ form = (let f : Ok x ≡ Ok form = e in cc) in subst FormWords same (form_fits inputs (line_words line) x g)
 
 lines_good : (inputs : List (List ℕ)) (limit : ℕ) (lines : List (List ℕ)) → GoodRows limit 1 (rows_of_lines inputs limit lines).rows
 lines_good inputs limit [] = record { few = omega arith; words = tt }

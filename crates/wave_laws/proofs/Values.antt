@@ -5,7 +5,7 @@ use Rattle.std.proofs.lemmas.List.{length-map}
 use Rattle.forec_kernel.specs.declared.shape.Outcome.{Outcome}
 use Rattle.forec_kernel.specs.declared.shape.Outcome.TheVariants as outcome
 use Rattle.forec_kernel.specs.Shapes.{PlainKernel}
-use Rattle.forec_kernel.specs.Ticks.{State, Fresh, Tick, tick}
+use Rattle.forec_kernel.specs.Ticks.{TickState, Fresh, Tick, tick}
 use Rattle.dump_report.specs.Told.{told_ticks}
 use Rattle.trace_rows.specs.Trace.{Row}
 use Rattle.trace_runs.specs.Formats.{tick_written, format_after}
@@ -40,7 +40,7 @@ module _ (k : PlainKernel) (fit : TicksFit) (words : KernelWords k) (budget : �
       by (outcome.Trapped place trap) e = record { each = tt; few = omega arith }
       by outcome.Over e = record { each = tt; few = omega arith }
 
-  pub values_good : (s : State) → FitReached k s → (rows : List Row) → AllByRecursion AreWords rows → GoodValues (length (output_names k)) (length rows) (values_from k budget s rows)
+  pub values_good : (s : TickState) → FitReached k s → (rows : List Row) → AllByRecursion AreWords rows → GoodValues (length (output_names k)) (length rows) (values_from k budget s rows)
   values_good s r [] h = record { each = tt; few = omega arith }
   values_good s r (row ∷ rows) h =
       let t = tick k budget s row in

@@ -17,13 +17,13 @@ abbrev pub leaf_line : ℕ → List ℕ
 leaf_line k = codes "void t" ++ decimal k ++ codes "(void) { int i = " ++ decimal k ++ codes "; while (1) { s = i; i = i + " ++ decimal k ++ codes "; pause; } }\n"
 
 -- thread k of so many forks threads 2k and 2k + 1 where there are such
-abbrev pub thread_line : ℕ → ℕ → List ℕ
-thread_line threads k = cond (nat_lt (2 * k) threads) (pair_line k) (cond (2 * k == threads) (single_line k) (leaf_line k))
+abbrev pub workload_thread_line : ℕ → ℕ → List ℕ
+workload_thread_line threads k = cond (nat_lt (2 * k) threads) (pair_line k) (cond (2 * k == threads) (single_line k) (leaf_line k))
 
 -- of the first so many threads
-abbrev pub lines_to : ℕ → ℕ → List ℕ
-lines_to threads zero = []
-lines_to threads (suc k) = lines_to threads k ++ thread_line threads (suc k)
+abbrev pub workload_lines_to : ℕ → ℕ → List ℕ
+workload_lines_to threads zero = []
+workload_lines_to threads (suc k) = workload_lines_to threads k ++ workload_thread_line threads (suc k)
 
-unfoldable pub text_of : ℕ → List ℕ
-text_of threads = head_lines ++ lines_to threads threads ++ codes "void main(void) { par(t1); }\n"
+unfoldable pub workload_text : ℕ → List ℕ
+workload_text threads = head_lines ++ workload_lines_to threads threads ++ codes "void main(void) { par(t1); }\n"

@@ -2,7 +2,7 @@
 #![tactic(auto)]
 
 ghost use Rattle.std.specs.Prelude.{◌≡◌, ◌≤◌, ◌++◌, ◌+◌, ◌*◌, codes, decimal, OnOk, IfOk};
-ghost use Rattle.workload.specs.Text.{head_lines, pair_line, single_line, leaf_line, thread_line, lines_to, text_of};
+ghost use Rattle.workload.specs.Text.{head_lines, pair_line, single_line, leaf_line, workload_thread_line, workload_lines_to, workload_text};
 
 use forec_base::OutOfMemory;
 use itoa::Buffer;
@@ -68,7 +68,7 @@ fn add_leaf(text: &mut Vec<u8>, thread: u32) -> Result<(), OutOfMemory>
 /// Adds the line of a thread of so many.
 fn add_thread(text: &mut Vec<u8>, threads: u32, thread: u32) -> Result<(), OutOfMemory>
     requires { thread ≤ 255 }
-    ensures { OnOk result (text.new.items ≡ text.old.items ++ thread_line threads thread) }
+    ensures { OnOk result (text.new.items ≡ text.old.items ++ workload_thread_line threads thread) }
 {
     if 2 * thread < threads {
         add_pair(text, thread)
@@ -87,7 +87,7 @@ fn add_thread(text: &mut Vec<u8>, threads: u32, thread: u32) -> Result<(), OutOf
 /// Out of memory.
 pub fn workload_text(alloc: Global, threads: u32) -> Result<Vec<u8>, OutOfMemory>
     requires { threads ≤ 255 }
-    ensures { IfOk result (λ text. text.items ≡ text_of threads) }
+    ensures { IfOk result (λ text. text.items ≡ workload_text threads) }
 {
     let mut text = Vec::new(alloc);
     add(

@@ -3,10 +3,10 @@
 ghost use Rattle.std.specs.Prelude.{◌≡◌, ◌+◌, ◌||◌, ◌&&◌, ◌==◌, ℕ, min, map, nat_lt, length, Some, IfOk, OnOk};
 ghost use Rattle.forec_tree.specs.Plain as plain;
 ghost use Rattle.forec_tree.specs.Pauses.{find_function};
-ghost use Rattle.forec_check.specs.AccessScan.{start, as_access, accessing_instances, instances_of};
-ghost use Rattle.loop_check.specs.Views.{text_of};
+ghost use Rattle.forec_check.specs.AccessScan.{scan_start, as_access, accessing_instances, instances_of};
+ghost use Rattle.loop_check.specs.Views.{indexed_text};
 ghost use Rattle.forec_check.specs.Walk.{item_effects, effects_lists};
-ghost use Rattle.forec_check.specs.AccessCounts.{capped, called_access, access_of, scan_effects, CountsEffect, capped_step, Orders};
+ghost use Rattle.forec_check.specs.AccessCounts.{capped_access, called_access, access_of, scan_effects, CountsEffect, capped_step, Orders};
 ghost use Rattle.forec_check.specs.AccessCounts as counts;
 
 use crate::instances::access_count::{AccessCount, AccessTally};
@@ -84,7 +84,7 @@ fn text_access(
     g: u32,
     table: &[AccessCount],
 ) -> Result<AccessCount, OutOfMemory>
-    ensures { IfOk result (λ n. capped (access_of n) ≡ capped (as_access (scan_effects g (called_access table.now) start effects.now))) }
+    ensures { IfOk result (λ n. capped_access (access_of n) ≡ capped_access (as_access (scan_effects g (called_access table.now) scan_start effects.now))) }
 {
     let mut t = AccessTally {
         own: false,
@@ -108,8 +108,8 @@ fn function_access(
     table: &[AccessCount],
     id: u32,
 ) -> Result<AccessCount, OutOfMemory>
-    requires { effects_lists bodies.now ≡ map (item_effects (text_of index.now)) (text_of index.now) }
-    ensures { IfOk result (λ n. capped (access_of n) ≡ capped_step (text_of index.now) g (called_access table.now) id) }
+    requires { effects_lists bodies.now ≡ map (item_effects (indexed_text index.now)) (indexed_text index.now) }
+    ensures { IfOk result (λ n. capped_access (access_of n) ≡ capped_step (indexed_text index.now) g (called_access table.now) id) }
 {
     let n = text_access(alloc, effects_of(index, bodies, id), g, table)?;
     Ok(n)
@@ -124,9 +124,9 @@ pub fn two_access(
     g: u32,
     first: u32,
 ) -> Result<bool, OutOfMemory>
-    requires bodies { effects_lists bodies.now ≡ map (item_effects (text_of index.now)) (text_of index.now) }
-    requires order { Orders (text_of index.now) order.now }
-    ensures { IfOk result (λ two. two ≡ nat_lt 1 (instances_of (text_of index.now) g first)) }
+    requires bodies { effects_lists bodies.now ≡ map (item_effects (indexed_text index.now)) (indexed_text index.now) }
+    requires order { Orders (indexed_text index.now) order.now }
+    ensures { IfOk result (λ two. two ≡ nat_lt 1 (instances_of (indexed_text index.now) g first)) }
 {
     let mut table = Vec::new(alloc);
     for f in order {

@@ -2,11 +2,11 @@
 
 ghost use Rattle.std.specs.Prelude.{◌≡◌, ◌≢◌, false, true, map, IfOk};
 ghost use Rattle.forec_tree.specs.Pauses.{find_function};
-ghost use Rattle.loop_check.specs.Views.{text_of};
+ghost use Rattle.loop_check.specs.Views.{indexed_text};
 ghost use Rattle.forec_check.specs.Walk.{item_effects, effects_lists};
 ghost use Rattle.forec_check.specs.AccessCounts.{effects_in};
 ghost use Rattle.forec_check.specs.CallSites as plain;
-ghost use Rattle.forec_check.specs.CallSites.{tables_of, outermost, SameTables, Settled, RestsAround, SettlesCalled, AllSettled};
+ghost use Rattle.forec_check.specs.CallSites.{site_maps, outermost, SameTables, HoldsEffects, RestsAround, SettlesCalled, AllSettled};
 
 use crate::instances::call_sites::{CallSite, CallSites, at, join};
 use crate::walk::effects::Effect;
@@ -32,7 +32,7 @@ struct OpenInstances {
 
 /// The instances that start at a site, in a function that is called from some sites.
 fn opened(calls: CallSites, site: CallSite) -> CallSites
-    ensures { result ≡ plain.opened calls site }
+    ensures { result ≡ plain.opened_sites calls site }
 {
     match calls {
         CallSites::None => CallSites::None,
@@ -48,8 +48,8 @@ fn propagate_call(
     text: CallSites,
 ) -> Result<bool, OutOfMemory>
     ensures same { IfOk result (λ moved. moved ≡ false → SameTables tables.old tables.new) }
-    ensures calls { IfOk result (λ moved. moved ≡ false → plain.is_within site ((tables_of tables.old).calls id) ≡ true) }
-    ensures texts { IfOk result (λ moved. moved ≡ false → plain.is_within text ((tables_of tables.old).texts id) ≡ true) }
+    ensures calls { IfOk result (λ moved. moved ≡ false → plain.is_within site ((site_maps tables.old).calls id) ≡ true) }
+    ensures texts { IfOk result (λ moved. moved ≡ false → plain.is_within text ((site_maps tables.old).texts id) ≡ true) }
 {
     let called = join(&mut tables.calls, id, site)?;
     let stands = join(&mut tables.texts, id, text)?;
@@ -100,7 +100,7 @@ fn propagate_effects(
     tables: &mut SiteTables,
 ) -> Result<bool, OutOfMemory>
     ensures same { IfOk result (λ moved. moved ≡ false → SameTables tables.old tables.new) }
-    ensures settled { IfOk result (λ moved. moved ≡ false → Settled (tables_of tables.old) f 1 (outermost (tables_of tables.old) f) effects.now) }
+    ensures settled { IfOk result (λ moved. moved ≡ false → HoldsEffects (site_maps tables.old) f 1 (outermost (site_maps tables.old) f) effects.now) }
 {
     let calls = at(&tables.calls, f);
     let mut around = OpenInstances {
@@ -124,8 +124,8 @@ fn propagate_effects(
 }
 
 fn is_none(sites: CallSites) -> bool
-    ensures some { result ≡ false → sites ≢ plain.none }
-    ensures none { result ≡ true → sites ≡ plain.none }
+    ensures some { result ≡ false → sites ≢ plain.no_sites }
+    ensures none { result ≡ true → sites ≡ plain.no_sites }
 {
     match sites {
         CallSites::None => true,
@@ -135,8 +135,8 @@ fn is_none(sites: CallSites) -> bool
 
 /// The effects of the body of a function.
 pub fn effects_of<'b>(index: &Index<'_>, bodies: &'b [Vec<Effect>], f: u32) -> &'b [Effect]
-    requires { effects_lists bodies.now ≡ map (item_effects (text_of index.now)) (text_of index.now) }
-    ensures { result.now ≡ effects_in (text_of index.now) (find_function f (text_of index.now)) }
+    requires { effects_lists bodies.now ≡ map (item_effects (indexed_text index.now)) (indexed_text index.now) }
+    ensures { result.now ≡ effects_in (indexed_text index.now) (find_function f (indexed_text index.now)) }
 {
     match index.position(f) {
         None => &[],
@@ -154,9 +154,9 @@ fn propagate_function(
     f: u32,
     tables: &mut SiteTables,
 ) -> Result<bool, OutOfMemory>
-    requires { effects_lists bodies.now ≡ map (item_effects (text_of index.now)) (text_of index.now) }
+    requires { effects_lists bodies.now ≡ map (item_effects (indexed_text index.now)) (indexed_text index.now) }
     ensures same { IfOk result (λ moved. moved ≡ false → SameTables tables.old tables.new) }
-    ensures settled { IfOk result (λ moved. moved ≡ false → SettlesCalled (text_of index.now) tables.old f) }
+    ensures settled { IfOk result (λ moved. moved ≡ false → SettlesCalled (indexed_text index.now) tables.old f) }
 {
     if is_none(at(&tables.calls, f)) {
         return Ok(false);
@@ -174,8 +174,8 @@ pub fn propagate(
     first: u32,
     tables: &mut SiteTables,
 ) -> Result<bool, OutOfMemory>
-    requires { effects_lists bodies.now ≡ map (item_effects (text_of index.now)) (text_of index.now) }
-    ensures { IfOk result (λ moved. moved ≡ false → AllSettled (text_of index.now) first functions.now (tables_of tables.new)) }
+    requires { effects_lists bodies.now ≡ map (item_effects (indexed_text index.now)) (indexed_text index.now) }
+    ensures { IfOk result (λ moved. moved ≡ false → AllSettled (indexed_text index.now) first functions.now (site_maps tables.new)) }
 {
     let start = CallSites::One {
         site: CallSite {

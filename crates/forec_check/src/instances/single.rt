@@ -1,7 +1,7 @@
 //! Globals that one thread instance alone accesses, all found in one walk.
 
 ghost use Rattle.std.specs.Prelude.{◌≡◌, map, IfOk};
-ghost use Rattle.loop_check.specs.Views.{text_of};
+ghost use Rattle.loop_check.specs.Views.{indexed_text};
 ghost use Rattle.forec_check.specs.Walk.{item_effects, effects_lists};
 ghost use Rattle.forec_check.specs.AccessCounts.{Orders};
 ghost use Rattle.forec_check.specs.SingleAccess as plain;
@@ -54,9 +54,9 @@ pub fn single_access(
     order: &[u32],
     first: u32,
 ) -> Result<SingleAccess, OutOfMemory>
-    requires bodies { effects_lists bodies.now ≡ map (item_effects (text_of index.now)) (text_of index.now) }
-    requires order { Orders (text_of index.now) order.now }
-    ensures { IfOk result (λ n. TellsSingle (text_of index.now) first n) }
+    requires bodies { effects_lists bodies.now ≡ map (item_effects (indexed_text index.now)) (indexed_text index.now) }
+    requires order { Orders (indexed_text index.now) order.now }
+    ensures { IfOk result (λ n. TellsSingle (indexed_text index.now) first n) }
 {
     let mut tables = SiteTables {
         calls: Vec::new(alloc),

@@ -5,7 +5,7 @@ ghost use Rattle.forec_tree.specs.Plain as plain;
 ghost use Rattle.forec_tree.specs.Rules as rules;
 ghost use Rattle.forec_tree.specs.Faults as faults;
 ghost use Rattle.forec_check.specs.Least.{least_from};
-ghost use Rattle.loop_check.specs.Views.{text_of};
+ghost use Rattle.loop_check.specs.Views.{indexed_text};
 ghost use Rattle.forec_check.specs.Items.{is_extra, JudgesGlobal, JudgesHead};
 
 use crate::rules::declarations::{is_long, judge_length, too_many};
@@ -17,7 +17,7 @@ use loop_check::Index;
 
 #[cycle(returns)]
 fn returns(s: &Stmt) -> bool
-    ensures { result ≡ rules.returns (plain.statement s.now) }
+    ensures { result ≡ rules.always_returns (plain.statement s.now) }
 {
     match &s.what {
         StmtKind::Group { body } => any_returns(body.as_slice()),
@@ -37,7 +37,7 @@ fn returns(s: &Stmt) -> bool
 
 #[cycle(returns)]
 fn any_returns(body: &[Stmt]) -> bool
-    ensures { result ≡ rules.some_returns (plain.statements body.now) }
+    ensures { result ≡ rules.some_always_returns (plain.statements body.now) }
 {
     for s in body {
         if returns(s) {
@@ -48,7 +48,7 @@ fn any_returns(body: &[Stmt]) -> bool
 }
 
 fn may_end(f: &Function) -> bool
-    ensures { result ≡ (f.now.gives && not (rules.some_returns (plain.statements f.now.body))) }
+    ensures { result ≡ (f.now.gives && not (rules.some_always_returns (plain.statements f.now.body))) }
 {
     if !f.gives {
         return false;
@@ -63,7 +63,7 @@ fn combines(f: &Function) -> bool
 }
 
 fn judge_combine(index: &Index<'_>, combine: Option<Combine>, least: &mut Option<Fault>)
-    ensures { least.new ≡ least_from least.old (faults.combine_faults (text_of index.now) combine) }
+    ensures { least.new ≡ least_from least.old (faults.combine_faults (indexed_text index.now) combine) }
 {
     match combine {
         None => {}
@@ -133,7 +133,7 @@ pub fn judge_global(
     g: &Global,
     least: &mut Option<Fault>,
 )
-    ensures { JudgesGlobal (text_of index.now) names.now at counts g.now least.old least.new }
+    ensures { JudgesGlobal (indexed_text index.now) names.now at counts g.now least.old least.new }
 {
     keep_fault(
         least,
@@ -172,7 +172,7 @@ pub fn judge_head(
     f: &Function,
     least: &mut Option<Fault>,
 )
-    ensures { JudgesHead (text_of index.now) names.now at counts f.now least.old least.new }
+    ensures { JudgesHead (indexed_text index.now) names.now at counts f.now least.old least.new }
 {
     keep_fault(
         least,

@@ -3,11 +3,11 @@
 ghost use Rattle.std.specs.Prelude.{◌≡◌, ◌+◌, ℕ, true, false, map, take, slice_get, slice_index_or, Some, IfOk, OnOk};
 ghost use Rattle.forec_tree.specs.Plain as plain;
 ghost use Rattle.forec_tree.specs.Faults.{Leads, Member, IsEarly, text_faults};
-ghost use Rattle.loop_check.specs.Views.{text_of};
+ghost use Rattle.loop_check.specs.Views.{indexed_text};
 ghost use Rattle.loop_check.specs.Graph.{callees};
 ghost use Rattle.forec_check.specs.Views.{program_text, program_names};
 ghost use Rattle.forec_check.specs.Walk.{item_effects, effects_lists};
-ghost use Rattle.forec_check.specs.Early.{effect_calls, Kept, EarlyTo, KnowsCalls};
+ghost use Rattle.forec_check.specs.Early.{effect_calls, IsLeastOrNone, EarlyTo, KnowsCalls};
 
 use crate::rules::least::{is_less, keep_fault};
 use crate::symbols::Symbols;
@@ -37,9 +37,9 @@ pub fn call_graph(
     items: &[Item],
     bodies: &[Vec<Effect>],
 ) -> Result<Calls, OutOfMemory>
-    requires items { map plain.plain_item items.now ≡ text_of index.now }
-    requires bodies { effects_lists bodies.now ≡ map (item_effects (text_of index.now)) (text_of index.now) }
-    ensures { IfOk result (λ calls. KnowsCalls (text_of index.now) calls) }
+    requires items { map plain.plain_item items.now ≡ indexed_text index.now }
+    requires bodies { effects_lists bodies.now ≡ map (item_effects (indexed_text index.now)) (indexed_text index.now) }
+    ensures { IfOk result (λ calls. KnowsCalls (indexed_text index.now) calls) }
 {
     let mut calls = Calls {
         functions: Vec::new(alloc),
@@ -70,8 +70,8 @@ fn judge_recursive(
     requires item { slice_get (program_text symbols.now) at ≡ Some (plain.plain_item item.now) }
     requires read { KnowsCalls (program_text symbols.now) known.now.calls.now }
     requires free { (g : ℕ) → slice_index_or known.now.free.now g false ≡ true → Leads (callees known.now.calls.now.lists.items) g g → ⊥ }
-    requires kept { Kept least.old (EarlyTo (program_text symbols.now) (program_names symbols.now) (take at (program_text symbols.now))) }
-    ensures { OnOk result (Kept least.new (EarlyTo (program_text symbols.now) (program_names symbols.now) (take (at + 1) (program_text symbols.now)))) }
+    requires kept { IsLeastOrNone least.old (EarlyTo (program_text symbols.now) (program_names symbols.now) (take at (program_text symbols.now))) }
+    ensures { OnOk result (IsLeastOrNone least.new (EarlyTo (program_text symbols.now) (program_names symbols.now) (take (at + 1) (program_text symbols.now)))) }
 {
     match item {
         Item::Global { .. } => Ok(()),
@@ -105,10 +105,10 @@ pub fn judge_recursion(
     calls: &Calls,
     least: &mut Option<Fault>,
 ) -> Result<(), OutOfMemory>
-    requires items { map plain.plain_item items.now ≡ text_of index.now }
-    requires read { KnowsCalls (text_of index.now) calls.now }
-    requires kept { Kept least.old (λ f. Member f (text_faults (text_of index.now) names.now)) }
-    ensures { OnOk result (Kept least.new (IsEarly (text_of index.now) names.now)) }
+    requires items { map plain.plain_item items.now ≡ indexed_text index.now }
+    requires read { KnowsCalls (indexed_text index.now) calls.now }
+    requires kept { IsLeastOrNone least.old (λ f. Member f (text_faults (indexed_text index.now) names.now)) }
+    ensures { OnOk result (IsLeastOrNone least.new (IsEarly (indexed_text index.now) names.now)) }
 {
     let free = acyclic(alloc, &calls.functions, &calls.lists)?;
     let symbols = Symbols { index, names };

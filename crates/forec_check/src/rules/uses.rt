@@ -30,7 +30,7 @@ fn fits_use(how: How, means: Meaning) -> bool
 }
 
 fn arguments(how: How) -> Option<usize>
-    ensures { result ≡ rules.arguments how }
+    ensures { result ≡ rules.argument_count how }
 {
     match how {
         How::Computes { args } | How::Runs { args } | How::Starts { args } => Some(args),

@@ -1,7 +1,7 @@
 //! The declarations so far, innermost last, with the last one of each name at hand.
 
 ghost use Rattle.std.specs.Prelude.{◌≡◌, ◌<◌, ◌≤◌, ◌-◌, [], ℕ, length, take, slice_index_or, OnOk, OnErr};
-ghost use Rattle.forec_check.specs.Declarations.{last_of, Chained, pushed};
+ghost use Rattle.forec_check.specs.Declarations.{last_of, AreDeclarationsChained, pushed_declaration};
 
 use crate::scopes::declaration::Declaration;
 use forec_base::OutOfMemory;
@@ -15,7 +15,7 @@ pub struct Declarations {
     pub list: Vec<Declaration>,
     latest: Vec<usize>,
     ghost latest_right: { (id : ℕ) → slice_index_or latest.items id 0 ≡ last_of id list.items },
-    ghost chained: { Chained list.items },
+    ghost chained: { AreDeclarationsChained list.items },
 }
 
 impl Declarations {
@@ -38,7 +38,7 @@ impl Declarations {
 
     /// Declares a name.
     pub fn push(&mut self, id: u32, array: bool) -> Result<(), OutOfMemory>
-        ensures ok { OnOk result (self.new.list.items ≡ pushed self.old.list.items id array) }
+        ensures ok { OnOk result (self.new.list.items ≡ pushed_declaration self.old.list.items id array) }
         ensures err { OnErr result (self.new.list.items ≡ self.old.list.items) }
     {
         let before = self.last(id);

@@ -1,7 +1,7 @@
 //! The scope at a place of a function: which parameters and locals are seen there.
 
 ghost use Rattle.std.specs.Prelude.{◌≡◌, ◌≤◌, ◌<◌, length, vec_len, OnOk, take};
-ghost use Rattle.forec_tree.specs.Scopes.{no_scope, is_among, with_name, entered};
+ghost use Rattle.forec_tree.specs.Scopes.{no_scope, is_among, with_name, inner_scope};
 
 use crate::scopes::declarations::Declarations;
 use forec_base::OutOfMemory;
@@ -73,7 +73,7 @@ impl Scope {
     /// Enters a scope inside; the answer is handed to `leave`.
     pub fn enter(&mut self) -> OuterScope
         ensures frame { (result.base ≡ self.old.base) × (result.start ≡ self.old.start) }
-        ensures scope { scope_of self.new ≡ entered (scope_of self.old) }
+        ensures scope { scope_of self.new ≡ inner_scope (scope_of self.old) }
         ensures inside { (self.new.base ≡ self.old.base) × (self.new.start ≡ length self.old.declared.list.items) }
         ensures list { self.new.declared.list.items ≡ self.old.declared.list.items }
     {

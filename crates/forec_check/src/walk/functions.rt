@@ -2,7 +2,7 @@
 
 ghost use Rattle.std.specs.Prelude.{◌≡◌, OnOk};
 ghost use Rattle.forec_tree.specs.Scopes.{with_params};
-ghost use Rattle.loop_check.specs.Views.{text_of};
+ghost use Rattle.loop_check.specs.Views.{indexed_text};
 ghost use Rattle.forec_check.specs.Views.{scope_of, ExtendsScope, SameScope};
 ghost use Rattle.forec_check.specs.WalkParts.{WalksParameters, WalksFunction};
 
@@ -42,7 +42,7 @@ pub fn body(
     f: &Function,
     notes: &mut Notes,
 ) -> Result<(), OutOfMemory>
-    ensures notes { OnOk result (WalksFunction (text_of index.now) names.now f.now notes.old notes.new) }
+    ensures notes { OnOk result (WalksFunction (indexed_text index.now) names.now f.now notes.old notes.new) }
     ensures same { OnOk result (SameScope scope.old scope.new) }
 {
     let context = Context {

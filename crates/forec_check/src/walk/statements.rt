@@ -247,7 +247,7 @@ impl Context<'_, '_> {
         s: &Option<Box<Stmt>>,
         notes: &mut Notes,
     ) -> Result<(), OutOfMemory>
-        ensures notes { OnOk result (WalksOptionalStatement self.now (scopes.entered (scope_of scope.old)) s.now notes.old notes.new) }
+        ensures notes { OnOk result (WalksOptionalStatement self.now (scopes.inner_scope (scope_of scope.old)) s.now notes.old notes.new) }
         ensures same { OnOk result (SameScope scope.old scope.new) }
     {
         match s {
@@ -267,7 +267,7 @@ impl Context<'_, '_> {
         s: &Stmt,
         notes: &mut Notes,
     ) -> Result<(), OutOfMemory>
-        ensures notes { OnOk result (WalksStatement self.now (scopes.entered (scope_of scope.old)) s.now notes.old notes.new) }
+        ensures notes { OnOk result (WalksStatement self.now (scopes.inner_scope (scope_of scope.old)) s.now notes.old notes.new) }
         ensures same { OnOk result (SameScope scope.old scope.new) }
     {
         let outer = scope.enter();
@@ -296,7 +296,7 @@ impl Context<'_, '_> {
     /// Statements in a scope of their own.
     #[cycle(statement)]
     fn block(&self, scope: &mut Scope, body: &[Stmt], notes: &mut Notes) -> Result<(), OutOfMemory>
-        ensures notes { OnOk result (WalksStatements self.now (scopes.entered (scope_of scope.old)) body.now notes.old notes.new) }
+        ensures notes { OnOk result (WalksStatements self.now (scopes.inner_scope (scope_of scope.old)) body.now notes.old notes.new) }
         ensures same { OnOk result (SameScope scope.old scope.new) }
     {
         let outer = scope.enter();

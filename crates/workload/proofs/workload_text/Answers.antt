@@ -1,5 +1,5 @@
 use Rattle.std.proofs.Common.{◌≡◌, ◌∙◌, ◌++◌, ◌-◌, ℕ, List, ap, append_assoc, arith, codes}
-use Rattle.workload.specs.Text.{head_lines, lines_to, text_of}
+use Rattle.workload.specs.Text.{head_lines, workload_lines_to, workload_text}
 use Rattle.workload.proofs.Adding.{whole}
 use Rattle.workload.proofs.workload_text.Goals as goal
 

@@ -2,7 +2,7 @@ use Rattle.std.proofs.Common.{rules, ◌≡◌, ◌+◌, true, false, sym, ap, �
 use Rattle.std.proofs.lemmas.Option.{get_or_from_slice_get}
 use Rattle.forec_kernel.specs.Combining.{contains}
 use Rattle.core_host.specs.Hosted.{Hosted, is_here}
-use Rattle.board_hosts.specs.CoreHosts.{AreMade, IsLoaded, root_core}
+use Rattle.board_hosts.specs.CoreHosts.{AreMade, IsLoadedHost, root_core}
 use Rattle.board_hosts.proofs.Made.{made_root, made_other, lacks}
 use Rattle.board_hosts.proofs.hosts.make_next.Goals as goal
 
@@ -19,7 +19,7 @@ returns c had =
     subst (λ l. AreMade c.args.code.now c.args.placement.now (c.args.parts.core + 1) c.args.made.now.root l) (sym c.in_ok-push.ensures.items)
     (made_other c.args.code.now c.args.placement.now c.args.parts.core c.args.made.now.root c.args.made.now.others.items had c.in-Ok.worker
     (λ here. c.if-core-root_core.false (here ∙ get_or_from_slice_get places 0 c.args.root_core 0 c.requires.root)) has
-    (subst (λ h. IsLoaded c.args.code.now c.args.placement.now c.args.parts.core h) (sym c.in-Ok.ensures.ok) c.in_ok-host.ensures))
+    (subst (λ h. IsLoadedHost c.args.code.now c.args.placement.now c.args.parts.core h) (sym c.in-Ok.ensures.ok) c.in_ok-host.ensures))
 
 pub unreachable-requires : goal.unreachable-requires
 unreachable-requires c =

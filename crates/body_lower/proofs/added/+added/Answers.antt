@@ -1,35 +1,35 @@
 use Rattle.std.proofs.Common.{◌∙◌, sym, ap, refl, subst, map}
 use Rattle.forec_tree.specs.declared.tree.StmtKind as kind
-use Rattle.forec_tree.specs.Plain.{statement, statements, branches, branch_with, term, terms, optional_term, perhaps_of, declared, written}
+use Rattle.forec_tree.specs.Plain.{statement, statements, branches, branch_with, term, terms, optional_term, perhaps_of, declared, written_target}
 use Rattle.forec_tree.specs.Terms as tree
 use Rattle.forec_tree.specs.Terms.{no_branches}
 use Rattle.forec_tree.proofs.Rows.{of_kind, of_group, of_if, of_for, of_par, of_abort, branch-group}
-use Rattle.body_lower.specs.Additions.{nothing, StatementAdds, PerhapsAdds, BranchesAdd}
+use Rattle.body_lower.specs.Additions.{no_additions, StatementAdds, PerhapsAdds, BranchesAdd}
 use Rattle.body_lower.proofs.AdditionLemmas.{nothing_adds, pause_adds, declare_adds, assign_adds, return_adds, kind_adds, group_adds, abort_adds, if_adds, for_adds, while_adds, call_adds, called_adds, block_adds, perhaps_none, par_none, par_adds, list_starts, list_goes, list_ends, branches_start, branches_go, branches_end, by_table}
 use Rattle.body_lower.proofs.added.+added.Goals as goal
 
 pub of_statement-returns-in-Nothing : goal.of_statement-returns-in-Nothing
-of_statement-returns-in-Nothing t c = λ text all. kind_adds text nothing c.nothing.result _ _ (of_kind (λ s. s) c.args.s.now kind.Nothing c.in-Nothing.is) c.nothing.ensures (nothing_adds text c.args.s.now.place)
+of_statement-returns-in-Nothing t c = λ text all. kind_adds text no_additions c.nothing.result _ _ (of_kind (λ s. s) c.args.s.now kind.Nothing c.in-Nothing.is) c.nothing.ensures (nothing_adds text c.args.s.now.place)
 
 pub of_statement-returns-in-Pause : goal.of_statement-returns-in-Pause
-of_statement-returns-in-Pause t c = λ text all. kind_adds text nothing c.nothing-in-Pause.result _ _ (of_kind (λ s. s) c.args.s.now kind.Pause c.in-Pause.is) c.nothing-in-Pause.ensures (pause_adds text c.args.s.now.place)
+of_statement-returns-in-Pause t c = λ text all. kind_adds text no_additions c.nothing-in-Pause.result _ _ (of_kind (λ s. s) c.args.s.now kind.Pause c.in-Pause.is) c.nothing-in-Pause.ensures (pause_adds text c.args.s.now.place)
 
 pub of_statement-returns-in-Declare : goal.of_statement-returns-in-Declare
 of_statement-returns-in-Declare t c =
     λ text all.
-    kind_adds text nothing c.nothing-in-Declare.result _ _ (of_kind (λ s. s) c.args.s.now (kind.Declare c.in-Declare.locals) c.in-Declare.is) c.nothing-in-Declare.ensures
+    kind_adds text no_additions c.nothing-in-Declare.result _ _ (of_kind (λ s. s) c.args.s.now (kind.Declare c.in-Declare.locals) c.in-Declare.is) c.nothing-in-Declare.ensures
     (declare_adds text c.args.s.now.place (map declared c.in-Declare.locals))
 
 pub of_statement-returns-in-Assign : goal.of_statement-returns-in-Assign
 of_statement-returns-in-Assign t c =
     λ text all.
-    kind_adds text nothing c.nothing-in-Assign.result _ _ (of_kind (λ s. s) c.args.s.now (kind.Assign c.in-Assign.target c.in-Assign.op c.in-Assign.value) c.in-Assign.is) c.nothing-in-Assign.ensures
-    (assign_adds text c.args.s.now.place (written c.in-Assign.target) c.in-Assign.op (term c.in-Assign.value))
+    kind_adds text no_additions c.nothing-in-Assign.result _ _ (of_kind (λ s. s) c.args.s.now (kind.Assign c.in-Assign.target c.in-Assign.op c.in-Assign.value) c.in-Assign.is) c.nothing-in-Assign.ensures
+    (assign_adds text c.args.s.now.place (written_target c.in-Assign.target) c.in-Assign.op (term c.in-Assign.value))
 
 pub of_statement-returns-in-Return : goal.of_statement-returns-in-Return
 of_statement-returns-in-Return t c =
     λ text all.
-    kind_adds text nothing c.nothing-in-Return.result _ _ (of_kind (λ s. s) c.args.s.now (kind.Return c.in-Return.value) c.in-Return.is) c.nothing-in-Return.ensures (return_adds text c.args.s.now.place (term c.in-Return.value))
+    kind_adds text no_additions c.nothing-in-Return.result _ _ (of_kind (λ s. s) c.args.s.now (kind.Return c.in-Return.value) c.in-Return.is) c.nothing-in-Return.ensures (return_adds text c.args.s.now.place (term c.in-Return.value))
 
 pub of_statement-returns-in_ok-added-in-Group : goal.of_statement-returns-in_ok-added-in-Group
 of_statement-returns-in_ok-added-in-Group t c =
@@ -107,7 +107,7 @@ of_branch-returns-in_ok-added-in-Group t c =
 
 pub of_par-returns-then-is_empty : goal.of_par-returns-then-is_empty
 of_par-returns-then-is_empty t c =
-    λ text all at. kind_adds text nothing c.nothing.result (tree.Par at (branches c.args.list.now)) (tree.Par at (branches c.args.list.now)) refl c.nothing.ensures (par_none text at c.args.list.now (sym c.is_empty.ensures ∙ c.if-is_empty.true))
+    λ text all at. kind_adds text no_additions c.nothing.result (tree.Par at (branches c.args.list.now)) (tree.Par at (branches c.args.list.now)) refl c.nothing.ensures (par_none text at c.args.list.now (sym c.is_empty.ensures ∙ c.if-is_empty.true))
 
 pub of_par-returns : goal.of_par-returns
 of_par-returns t c =

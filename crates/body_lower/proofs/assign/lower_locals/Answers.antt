@@ -1,7 +1,7 @@
 use Rattle.std.proofs.Common.{ℕ, ◌+◌, ◌≡◌, ◌∙◌, sym, ap, ◌++◌, ◌∷◌, [], drop, Option}
 use Rattle.forec_tree.specs.declared.tree.Local.{Local}
 use Rattle.forec_tree.specs.Plain.{declared}
-use Rattle.loop_check.specs.Views.{text_of}
+use Rattle.loop_check.specs.Views.{indexed_text}
 use Rattle.text_kernel.specs.declared.names.Slot.{Slot}
 use Rattle.text_kernel.specs.Bindings.{local_slot, slots_of}
 use Rattle.body_lower.specs.Views.{seen}
@@ -13,7 +13,7 @@ slot_of d at size = record { id = d.name.id; slot = at; size = size }
 
 pub loop-local-preserved : goal.loop-local-preserved
 loop-local-preserved c =
-    let text = text_of c.args.globals.now.index in
+    let text = indexed_text c.args.globals.now.index in
     let items = c.args.locals.now in
     let i = c.loop-local.local-index in
     let d = c.local-item.result in
@@ -33,4 +33,4 @@ loop-local-preserved c =
 
 pub returns-clause-list : goal.returns-clause-list
 returns-clause-list c =
-    locals_end (text_of c.args.globals.now.index) (seen c.loop-local.scope) c.loop-local.slot c.args.locals.now c.loop-local.local-index c.loop-local.list.items _ c.loop-local-test.false c.loop-local.invariant.list
+    locals_end (indexed_text c.args.globals.now.index) (seen c.loop-local.scope) c.loop-local.slot c.args.locals.now c.loop-local.local-index c.loop-local.list.items _ c.loop-local-test.false c.loop-local.invariant.list

@@ -3,7 +3,7 @@ use Rattle.forec_tree.specs.Plain as plain
 use Rattle.forec_kernel.specs.Plain as kernel
 use Rattle.text_kernel.specs.Lowering as lowering
 use Rattle.body_lower.specs.Landings.{called_within}
-use Rattle.body_lower.specs.Views.{context_text, seen, Kept, next_of}
+use Rattle.body_lower.specs.Views.{context_text, seen, AppendsLocals, next_of}
 use Rattle.body_lower.proofs.Doing.{ListLeft}
 use Rattle.body_lower.proofs.body.+body.Given as goal
 
@@ -61,4 +61,4 @@ invariant-list-loop-s l =
     let called = called_within text l.context.deep in
     ListLeft text (lowering.lower_list text called l.context.owner (seen l.state.scope) (next_of l.state) (plain.statements (drop l.s-index l.body)))
     (lowering.lower_list text called l.context.owner (seen l.fn.state.scope) (next_of l.fn.state) (plain.statements l.body)) (kernel.stmts l.list.items) l.fn.state l.state
-    × Kept l.fn.state.scope l.state.scope
+    × AppendsLocals l.fn.state.scope l.state.scope

@@ -4,4 +4,4 @@ use Rattle.body_lower.specs.Landings as landings
 use Rattle.body_lower.proofs.landing.inside.Goals as goal
 
 pub returns-in-Group : goal.returns-in-Group
-returns-in-Group c = c.only.ensures ∙ of_group landings.inside c.args.s.now c.in-Group.body c.as_slice.result.now c.in-Group.is c.as_slice.ensures
+returns-in-Group c = c.only.ensures ∙ of_group landings.only_in_group c.args.s.now c.in-Group.body c.as_slice.result.now c.in-Group.is c.as_slice.ensures

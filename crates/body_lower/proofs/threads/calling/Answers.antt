@@ -2,7 +2,7 @@ use Rattle.std.proofs.Common.{◌∙◌, ap, refl}
 use Rattle.forec_tree.specs.Plain.{terms}
 use Rattle.forec_kernel.specs.Plain.{stmt}
 use Rattle.body_lower.specs.declared.state.State.{State}
-use Rattle.body_lower.specs.Views.{context_text, threads_in}
+use Rattle.body_lower.specs.Views.{context_text, pending_threads}
 use Rattle.body_lower.proofs.Doing.{count_args}
 use Rattle.body_lower.proofs.Pended.{call_made}
 use Rattle.body_lower.proofs.threads.calling.Goals as goal
@@ -13,4 +13,4 @@ returns c =
     let old = c.args.state.now in
     let one : State = record old { slot = c.in_ok-taken.taken } in
     call_made text c.args.context.now.deep c.args.one.parent c.args.one.par c.args.context.now.owner old.par c.args.name (terms c.args.args.now) c.in_ok-params.params (stmt c.in_ok-body.body) one c.inlined.new.state
-    (c.in_ok-taken.ensures.ok ∙ count_args c.args.args.now) c.requires.number refl (ap (threads_in text) c.requires.none) c.in_ok-params.ensures c.in_ok-body.ensures.does
+    (c.in_ok-taken.ensures.ok ∙ count_args c.args.args.now) c.requires.number refl (ap (pending_threads text) c.requires.none) c.in_ok-params.ensures c.in_ok-body.ensures.does

@@ -1,7 +1,7 @@
 use Rattle.std.proofs.Common.{rules, arith, ◌≡◌, ◌∷◌, sym, refl, ap, ◌∙◌, subst, Some}
 use Rattle.atomic_table.specs.Table.{rest}
 use Rattle.copy_slots.specs.Mail.{plain_list, sender_got}
-use Rattle.copy_slots.specs.SeatEnds.{Sits}
+use Rattle.copy_slots.specs.SeatEnds.{HasEnds}
 use Rattle.copy_slots.proofs.MailLemmas.{collects}
 use Rattle.copy_slots.proofs.SeatEndLemmas.{one_place, comes, hand_got, took_out}
 use Rattle.copy_slots.proofs.steps.collect.Goals as goal
@@ -27,7 +27,7 @@ returns-clause-turn g c bs x y h = let t = (c.load.ensures.2 x (Some y) (ap (λ 
 pub returns-clause-seat : goal.returns-clause-seat
 returns-clause-seat g c bs x k h = let key = c.args.top.now.key in let r = c.requires.seat in let t = (c.load.ensures.2 x k (ap (λ m. m.0.role) h.me)).0 c.if-load-ne0.false in
     let e = took_out _ _ _ c.exchange.result (Some t.0) t.2 c.exchange.ensures.2 in let same : t.0 ≡ c.unwrap.result = search rules in
-    subst (λ q. Sits c.args.top.now.table_id key.work.value bs c.args.k (Some (sender_got (g.W.Work.plain q) x)) k c.exchange.new.seat) same
+    subst (λ q. HasEnds c.args.top.now.table_id key.work.value bs c.args.k (Some (sender_got (g.W.Work.plain q) x)) k c.exchange.new.seat) same
     (comes c.args.top.now.table_id key.work.value bs c.args.k (Some x) (Some (sender_got (g.W.Work.plain t.0) x)) k k c.args.seat.now c.load.new.seat c.exchange.new.seat (Some t.0) h c.load.ensures.0 t.1 t.2 c.exchange.ensures.0 c.exchange.ensures.3
     (hand_got c.args.k x (sender_got (g.W.Work.plain t.0) x) k (one_place c.args.top.now.table_id key.work.value bs r.0 c.args.k x r.1 k r.2 c.args.seat.now h r.4 ∙ r.3) refl))
 

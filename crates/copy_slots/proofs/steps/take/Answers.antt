@@ -1,7 +1,7 @@
 use Rattle.std.proofs.Common.{rules, arith, ◌≡◌, [], ◌∷◌, ◌++◌, sym, refl, ap, ◌∙◌, subst, Some, None}
 use Rattle.atomic_table.specs.Table.{rest}
 use Rattle.copy_slots.specs.Mail.{plain_list, taker_took}
-use Rattle.copy_slots.specs.SeatEnds.{Sits}
+use Rattle.copy_slots.specs.SeatEnds.{HasEnds}
 use Rattle.copy_slots.proofs.MailLemmas.{takes_job}
 use Rattle.copy_slots.proofs.SeatEndLemmas.{one_hand, comes, hand_taken, hand_free, took_out}
 use Rattle.copy_slots.proofs.steps.take.Goals as goal
@@ -31,7 +31,7 @@ returns-clause-turn g c bs x y h = let t = (c.load.ensures.2 (Some x) y (ap (λ 
 pub returns-clause-seat : goal.returns-clause-seat
 returns-clause-seat g c bs b y h = let key = c.args.top.now.key in let r = c.requires.seat in let t = (c.load.ensures.2 b y (ap (λ m. m.0.role) h.me)).0 c.if-load-eq0.false in
     let e = took_out _ _ _ c.exchange.result (Some t.0) t.2 c.exchange.ensures.2 in let same : t.0 ≡ c.unwrap.result = search rules in
-    subst (λ q. Sits c.args.top.now.table_id key.work.value bs c.args.k b (Some (taker_took (g.W.Work.plain q) y)) c.exchange.new.seat) same
+    subst (λ q. HasEnds c.args.top.now.table_id key.work.value bs c.args.k b (Some (taker_took (g.W.Work.plain q) y)) c.exchange.new.seat) same
     (comes c.args.top.now.table_id key.work.value bs c.args.k b b (Some y) (Some (taker_took (g.W.Work.plain t.0) y)) c.args.seat.now c.load.new.seat c.exchange.new.seat (Some t.0) h c.load.ensures.0 t.1 t.2 c.exchange.ensures.0 c.exchange.ensures.3
     (ap (λ l. (c.args.k, None) ∷ l) (hand_free c.args.k b y (one_hand c.args.top.now.table_id key.work.value bs r.0 c.args.k y r.2 b r.1 c.args.seat.now h r.4 ∙ r.3)) ∙ sym (hand_taken c.args.k b (taker_took (g.W.Work.plain t.0) y) refl)))
 

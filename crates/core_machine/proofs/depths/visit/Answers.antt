@@ -1,7 +1,7 @@
 use Rattle.std.proofs.Common.{◌+◌, ◌∙◌, ap, length}
 use Rattle.thread_code.specs.Plain.{plain_code, plain_block}
 use Rattle.thread_steps.specs.BlockRun.{depth_after}
-use Rattle.core_machine.specs.Depths.{target}
+use Rattle.core_machine.specs.Depths.{jump_target}
 use Rattle.core_machine.proofs.Spreading.{next_on, next_to, next_within, named_within, holds_spread}
 use Rattle.core_machine.proofs.depths.visit.Goals as goal
 
@@ -16,7 +16,7 @@ pub spread-requires-clause-named : goal.spread-requires-clause-named
 spread-requires-clause-named c =
     let step = c.step_at-step.result.now in
     let at = c.args.at in
-    named_within (target step) (length c.args.depths.now)
+    named_within (jump_target step) (length c.args.depths.now)
     (λ q e.
     next_within (plain_code c.args.code.now) (plain_block c.args.block.now) c.requires.sound c.args.depths.now c.requires.holds at step q (λ e. c.in-Some.ensures.known (c.in-Some.ensures.same ∙ e))
     c.step_at-step.ensures (next_to at step q e))

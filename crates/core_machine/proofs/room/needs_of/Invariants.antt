@@ -1,6 +1,6 @@
 use Rattle.std.proofs.Common.{◌≡◌, ◌<◌, ℕ, length, get_or}
 use Rattle.thread_code.specs.Plain.{plain_code}
-use Rattle.core_machine.specs.Room.{function_block, Enough}
+use Rattle.core_machine.specs.Room.{block_of_function, Enough}
 use Rattle.core_machine.proofs.room.needs_of.Given as goal
 
 abbrev pub invariant-loop-function : goal.invariant-loop-function
@@ -8,4 +8,4 @@ invariant-loop-function l = length l.needs.items ≡ length (plain_code l.code).
 
 abbrev pub invariant-loop-function-2 : goal.invariant-loop-function-2
 invariant-loop-function-2 l =
-    (f : ℕ) → f < l.function → Enough (plain_code l.code) (function_block (plain_code l.code) f) l.needs.items (get_or l.needs.items f 0)
+    (f : ℕ) → f < l.function → Enough (plain_code l.code) (block_of_function (plain_code l.code) f) l.needs.items (get_or l.needs.items f 0)

@@ -40,9 +40,9 @@ decreases-value l = 8 * l.depth + 1
 
 abbrev pub invariant-climbing-loop-turn : goal.invariant-climbing-loop-turn
 invariant-climbing-loop-turn l =
-    spec.climbing max_level (spec.expr max_level l.depth) l.least l.fn.tokens ≡ spec.climb max_level (spec.expr max_level l.depth) l.least (l._turn-end - l._turn) (term_in l.left) l.tokens
+    spec.climbing max_level (spec.read_expression max_level l.depth) l.least l.fn.tokens ≡ spec.climb max_level (spec.read_expression max_level l.depth) l.least (l._turn-end - l._turn) (term_in l.left) l.tokens
 
 abbrev pub invariant-values-loop-turn : goal.invariant-values-loop-turn
 invariant-values-loop-turn l =
-    spec.separated (spec.value max_level (spec.expr max_level l.depth)) l.fn.tokens
-    ≡ spec.separated_from (spec.value max_level (spec.expr max_level l.depth)) (l._turn-end - l._turn) (map term l.found) l.tokens
+    spec.separated (spec.value max_level (spec.read_expression max_level l.depth)) l.fn.tokens
+    ≡ spec.separated_from (spec.value max_level (spec.read_expression max_level l.depth)) (l._turn-end - l._turn) (map term l.found) l.tokens

@@ -3,7 +3,7 @@ use Rattle.forec_tree.specs.Pauses.{callees_of}
 use Rattle.forec_tree.specs.Faults.{Leads}
 use Rattle.forec_tree.specs.Threads as threads
 use Rattle.loop_check.specs.Graph.{callees, IsOrder}
-use Rattle.loop_check.specs.Views.{text_of}
+use Rattle.loop_check.specs.Views.{indexed_text}
 use Rattle.forec_check.specs.Table.{Settles}
 use Rattle.forec_check.specs.Instances.{count_at, capped_below, count_of}
 use Rattle.forec_check.proofs.InstanceCounts.{counts_settle, counted_all}
@@ -11,7 +11,7 @@ use Rattle.forec_check.proofs.instances.instances.Goals as goal
 
 pub counts-requires : goal.counts-requires
 counts-requires c =
-    let text = text_of c.in_ok-index.index in
+    let text = indexed_text c.in_ok-index.index in
     let functions = c.in_ok-calls.calls.functions.items in
     let lists = c.in_ok-calls.calls.lists.items in
     let order = c.in_ok-order.order.items in
@@ -22,6 +22,6 @@ counts-requires c =
 
 pub returns : goal.returns
 returns c =
-    let text = text_of c.in_ok-index.index in
+    let text = indexed_text c.in_ok-index.index in
     counted_all text c.args.first c.known_count.result c.sum.result (c.known_count.ensures ∙ ap (λ t. count_at t c.args.first) c.deref-4.ensures.value ∙ c.in_ok-table.ensures c.args.first) c.sum.ensures
     ∙ ap (λ t. min (threads.instances t c.args.first) (2 ^ 64 - 1)) c.in_ok-index.ensures

@@ -4,7 +4,7 @@ use Rattle.forec_tree.specs.Pauses.{callees_of}
 use Rattle.forec_tree.specs.Faults.{Leads}
 use Rattle.loop_check.specs.Graph.{callees, IsOrder}
 use Rattle.loop_check.specs.Judges.{judge_text}
-use Rattle.loop_check.specs.Views.{text_of}
+use Rattle.loop_check.specs.Views.{indexed_text}
 use Rattle.forec_check.specs.AccessCounts.{Orders}
 use Rattle.forec_check.specs.Loops.{all_loops}
 use Rattle.forec_check.proofs.Acyclic.{no_circle, no_reach}
@@ -14,7 +14,7 @@ use Rattle.forec_check.proofs.rules.least_late.Goals as goal
 
 pub judge_accesses-requires-clause-order : goal.judge_accesses-requires-clause-order
 judge_accesses-requires-clause-order c =
-    let text = text_of c.args.index.now in
+    let text = indexed_text c.args.index.now in
     let functions = c.args.calls.now.functions.items in
     let lists = c.args.calls.now.lists.items in
     let order = c.in_ok-order.order.items in
@@ -23,10 +23,10 @@ judge_accesses-requires-clause-order c =
     subst (λ o. Orders text o) (sym c.deref-4.ensures.value) (orders_is text functions order (callees lists) c.requires.read ordered (no_reach text c.args.names.now c.requires.early))
 
 pub of-requires : goal.of-requires
-of-requires c = λ f l. no_circle (text_of c.args.index.now) c.args.names.now c.requires.early f (subst (λ t. Leads (callees_of t) f f) c.requires.items l)
+of-requires c = λ f l. no_circle (indexed_text c.args.index.now) c.args.names.now c.requires.early f (subst (λ t. Leads (callees_of t) f f) c.requires.items l)
 
 pub returns : goal.returns
 returns c =
-    let text = text_of c.args.index.now in
+    let text = indexed_text c.args.index.now in
     both_late text c.args.names.now (judge_text c.in_ok-pauses.pauses) (all_loops (map plain.plain_item c.args.items.now)) c.judge_accesses.new.least c.judge_loops.new.least c.in_ok-judge_accesses.ensures
     (c.in_ok-pauses.ensures ∙ c.requires.items) (ap all_loops c.requires.items) c.judge_loops.ensures

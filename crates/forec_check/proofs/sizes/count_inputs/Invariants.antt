@@ -7,5 +7,5 @@ abbrev pub invariant-loop-item : goal.invariant-loop-item
 invariant-loop-item l =
     record {
       few : l.count ≤ l.item-index;
-      told : l.count + checked.inputs_of (map plain.plain_item (drop l.item-index l.items)) ≡ checked.inputs_of (map plain.plain_item l.fn.items);
+      told : l.count + checked.count_inputs (map plain.plain_item (drop l.item-index l.items)) ≡ checked.count_inputs (map plain.plain_item l.fn.items);
     }

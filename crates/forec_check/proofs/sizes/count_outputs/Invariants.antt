@@ -4,4 +4,4 @@ use Rattle.forec_check.specs.Checked as checked
 use Rattle.forec_check.proofs.sizes.count_outputs.Given as goal
 
 abbrev pub invariant-loop-item : goal.invariant-loop-item
-invariant-loop-item l = l.count + checked.outputs_of (map plain.plain_item (drop l.item-index l.items)) ≡ checked.outputs_of (map plain.plain_item l.fn.items)
+invariant-loop-item l = l.count + checked.count_outputs (map plain.plain_item (drop l.item-index l.items)) ≡ checked.count_outputs (map plain.plain_item l.fn.items)

@@ -1,7 +1,7 @@
 use Rattle.std.proofs.Common.{refl}
 use Rattle.forec_tree.specs.Plain.{plain_function}
 use Rattle.forec_tree.specs.Faults.{in_function}
-use Rattle.loop_check.specs.Views.{text_of}
+use Rattle.loop_check.specs.Views.{indexed_text}
 use Rattle.forec_check.specs.Views.{judging}
 use Rattle.forec_check.specs.Walk.{notes_of}
 use Rattle.forec_check.specs.Items.{before_of}
@@ -10,11 +10,11 @@ use Rattle.forec_check.proofs.walk.walk_function.Goals as goal
 
 pub returns-clause-least : goal.returns-clause-least
 returns-clause-least c =
-    let text = text_of c.args.symbols.now.index.now in
+    let text = indexed_text c.args.symbols.now.index.now in
     function_is text c.args.symbols.now.names.now (before_of text c.args.at c.args.counts) (plain_function c.args.f.now) c.args.notes.now.least c.judge_head.new.least _ (notes_of c.body.new.notes)
     c.judge_head.ensures refl c.in_ok-body.ensures.notes
 
 pub returns-clause-effects : goal.returns-clause-effects
 returns-clause-effects c =
     let f = plain_function c.args.f.now in
-    walked_effects (judging c.args.symbols.now.names.now f.gives) (in_function (text_of c.args.symbols.now.index.now) f) _ (notes_of c.body.new.notes) c.in_ok-body.ensures.notes c.requires
+    walked_effects (judging c.args.symbols.now.names.now f.gives) (in_function (indexed_text c.args.symbols.now.index.now) f) _ (notes_of c.body.new.notes) c.in_ok-body.ensures.notes c.requires

@@ -2,7 +2,7 @@ use Rattle.std.proofs.Common.{◌≡◌, ◌∙◌, ◌+◌, ◌++◌, ◌∷◌
 use Rattle.std.specs.Prelude.{slice_get}
 use Rattle.std.proofs.lemmas.List.{drop_all, take_all}
 use Rattle.forec_tree.specs.Plain as plain
-use Rattle.loop_check.specs.Views.{text_of}
+use Rattle.loop_check.specs.Views.{indexed_text}
 use Rattle.forec_check.specs.Walk.{item_effects, effects_lists}
 use Rattle.forec_check.specs.Items.{before_of}
 use Rattle.forec_check.proofs.ItemRules.{items_at, item_get, least_step, least_end, bodies_step}
@@ -10,7 +10,7 @@ use Rattle.forec_check.proofs.walk.walk_items.Goals as goal
 
 pub loop-at-preserved : goal.loop-at-preserved
 loop-at-preserved c =
-    let text = text_of c.args.index.now in
+    let text = indexed_text c.args.index.now in
     let items = c.args.items.now in
     let at = c.loop-at.at in
     let x = plain.plain_item c.index-items-at.result in
@@ -26,5 +26,5 @@ loop-at-preserved c =
 
 pub returns-clause-least : goal.returns-clause-least
 returns-clause-least c =
-    let text = text_of c.args.index.now in
+    let text = indexed_text c.args.index.now in
     least_end text c.args.names.now _ _ c.loop-at.program_notes.notes.least _ (ap (map plain.plain_item) (drop_all c.loop-at.at c.args.items.now c.loop-at-test.false)) c.loop-at.invariant.0

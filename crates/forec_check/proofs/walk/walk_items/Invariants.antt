@@ -2,15 +2,15 @@ use Rattle.std.proofs.Common.{◌≡◌, ◌≤◌, ◌+◌, ◌++◌, [], map, 
 use Rattle.forec_tree.specs.Plain as plain
 use Rattle.forec_tree.specs.Faults as faults
 use Rattle.forec_check.specs.Least.{least_from}
-use Rattle.loop_check.specs.Views.{text_of}
+use Rattle.loop_check.specs.Views.{indexed_text}
 use Rattle.forec_check.specs.Walk.{item_effects, effects_lists}
 use Rattle.forec_check.specs.Items.{before_of, CountsBelow}
 use Rattle.forec_check.proofs.walk.walk_items.Given as goal
 
 abbrev pub invariant-loop-at : goal.invariant-loop-at
 invariant-loop-at l =
-    (least_from l.program_notes.notes.least (faults.items_faults (text_of l.index) l.names (before_of (text_of l.index) l.at l.counts) (map plain.plain_item (drop l.at l.items)))
-    ≡ least_from l.fn.program_notes.notes.least (faults.items_faults (text_of l.index) l.names faults.none_before (text_of l.index)))
-    × (effects_lists l.program_notes.bodies.items ≡ map (item_effects (text_of l.index)) (take l.at (text_of l.index)))
+    (least_from l.program_notes.notes.least (faults.items_faults (indexed_text l.index) l.names (before_of (indexed_text l.index) l.at l.counts) (map plain.plain_item (drop l.at l.items)))
+    ≡ least_from l.fn.program_notes.notes.least (faults.items_faults (indexed_text l.index) l.names faults.none_before (indexed_text l.index)))
+    × (effects_lists l.program_notes.bodies.items ≡ map (item_effects (indexed_text l.index)) (take l.at (indexed_text l.index)))
     × (l.program_notes.notes.effects.items ≡ [])
     × CountsBelow l.counts (l.at + 1)

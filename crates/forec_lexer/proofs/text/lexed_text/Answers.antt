@@ -3,10 +3,10 @@ use Rattle.std.proofs.lemmas.List.{take_rest}
 use Rattle.std.proofs.lemmas.Result.{err_from_is_err_and}
 use Rattle.forec_tree.specs.declared.token.Token.{Token}
 use Rattle.forec_tree.specs.Lexis.{NextPiece, NothingFits}
-use Rattle.forec_tree.specs.LexedText.{Cuts, kind_of, names_after, slice, place_at, place_after}
+use Rattle.forec_tree.specs.LexedText.{Cuts, token_kind_of, names_after, slice, place_at, place_after}
 use Rattle.std.specs.List.{fold}
 use Rattle.forec_lexer.specs.Reading.{shown}
-use Rattle.forec_lexer.specs.Answers.{kept, IsFull, HasCause}
+use Rattle.forec_lexer.specs.Answers.{kept, IsFull, HasLexCause}
 use Rattle.forec_lexer.proofs.Whole.{start, turn, full, at_end, at_stop, place_step, place_within, named}
 use Rattle.forec_lexer.proofs.text.lexed_text.Goals as goal
 
@@ -30,9 +30,9 @@ returns-in_err-keep-clause-err c =
     let i = c.loop-at.invariant in
     let rest = take_rest c.args.text.now c.loop-at.at in
     let next : NextPiece (drop c.loop-at.at c.args.text.now) (shown c.in-Some.piece) c.in-Some.len = rw rest at c.in-Some.ensures.found in
-    let kind : c.in_ok-kind.kind ≡ kind_of c.loop-at.names.labels (shown c.in-Some.piece) (slice c.args.text.now c.loop-at.at c.in-Some.len) = rw rest at c.in_ok-kind.ensures.kind in
+    let kind : c.in_ok-kind.kind ≡ token_kind_of c.loop-at.names.labels (shown c.in-Some.piece) (slice c.args.text.now c.loop-at.at c.in-Some.len) = rw rest at c.in_ok-kind.ensures.kind in
     let is_full : IsFull c.loop-at.tokens.items c.in_ok-kind.kind (place_at c.args.text.now c.loop-at.at) c.in_err-keep.field-0.0 = rw i.place at c.in_err-keep.ensures.err in
-    let cause : HasCause c.args.text.now c.in_err-keep.field-0.0 =
+    let cause : HasLexCause c.args.text.now c.in_err-keep.field-0.0 =
     full c.args.text.now c.loop-at.tokens.items c.loop-at.names.labels c.loop-at.at c.in-Some.len (shown c.in-Some.piece) c.in_ok-kind.kind c.in_err-keep.field-0.0 i.cuts next kind is_full in
     let p = err_from_is_err_and c.from_residual-in_err-keep.result c.from_residual-in_err-keep.ensures.1 in
     rw (p.1, p.2) cause
@@ -56,7 +56,7 @@ loop-at-preserved c =
     let i = c.loop-at.invariant in
     let rest = take_rest c.args.text.now c.loop-at.at in
     let next : NextPiece (drop c.loop-at.at c.args.text.now) (shown c.in-Some.piece) c.in-Some.len = rw rest at c.in-Some.ensures.found in
-    let kind : c.in_ok-kind.kind ≡ kind_of c.loop-at.names.labels (shown c.in-Some.piece) (slice c.args.text.now c.loop-at.at c.in-Some.len) = rw rest at c.in_ok-kind.ensures.kind in
+    let kind : c.in_ok-kind.kind ≡ token_kind_of c.loop-at.names.labels (shown c.in-Some.piece) (slice c.args.text.now c.loop-at.at c.in-Some.len) = rw rest at c.in_ok-kind.ensures.kind in
     let after : c.kind_of.new.names.labels ≡ names_after c.loop-at.names.labels (shown c.in-Some.piece) (slice c.args.text.now c.loop-at.at c.in-Some.len) = rw rest at c.in_ok-kind.ensures.after in
     let tokens : c.keep.new.tokens.items ≡ kept c.loop-at.tokens.items c.in_ok-kind.kind c.loop-at.at (c.loop-at.at + c.in-Some.len) (place_at c.args.text.now c.loop-at.at) =
     c.in_ok-keep.ensures.ok ∙ ap (kept c.loop-at.tokens.items c.in_ok-kind.kind c.loop-at.at (c.loop-at.at + c.in-Some.len)) i.place in

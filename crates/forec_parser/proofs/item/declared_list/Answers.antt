@@ -4,24 +4,24 @@ use Rattle.std.proofs.lemmas.Grind.{common_steps}
 use Rattle.forec_tree.specs.Plain.{plain_item}
 use Rattle.expr_parser.specs.Input.{max_level}
 use Rattle.expr_parser.specs.Reading.{separated_from}
-use Rattle.forec_parser.specs.Items.{declared}
+use Rattle.forec_parser.specs.Items.{declared_item}
 use Rattle.expr_parser.proofs.LoopTurns.{next_turn}
 use Rattle.forec_parser.proofs.item.declared_list.Goals as goal
 
 pub loop-turn-preserved : goal.loop-turn-preserved
 unfolding separated_from
 loop-turn-preserved c =
-    let e = next_turn (λ n. separated_from (declared max_level c.args.declarator) n (map plain_item c.loop-turn.found) c.loop-turn.tokens) _ c.loop-turn._turn c.loop-turn-test.true c.loop-turn.invariant in
+    let e = next_turn (λ n. separated_from (declared_item max_level c.args.declarator) n (map plain_item c.loop-turn.found) c.loop-turn.tokens) _ c.loop-turn._turn c.loop-turn-test.true c.loop-turn.invariant in
     first_of (search rules, grind (arith, map-append, common_steps))
 
 pub returns-in_err-take : goal.returns-in_err-take
 unfolding separated_from
 returns-in_err-take c =
-    let e = next_turn (λ n. separated_from (declared max_level c.args.declarator) n (map plain_item c.loop-turn.found) c.loop-turn.tokens) _ c.loop-turn._turn c.loop-turn-test.true c.loop-turn.invariant in
+    let e = next_turn (λ n. separated_from (declared_item max_level c.args.declarator) n (map plain_item c.loop-turn.found) c.loop-turn.tokens) _ c.loop-turn._turn c.loop-turn-test.true c.loop-turn.invariant in
     first_of (search rules, grind (arith, map-append, common_steps))
 
 pub returns-in_err-declared : goal.returns-in_err-declared
 unfolding separated_from
 returns-in_err-declared c =
-    let e = next_turn (λ n. separated_from (declared max_level c.args.declarator) n (map plain_item c.loop-turn.found) c.loop-turn.tokens) _ c.loop-turn._turn c.loop-turn-test.true c.loop-turn.invariant in
+    let e = next_turn (λ n. separated_from (declared_item max_level c.args.declarator) n (map plain_item c.loop-turn.found) c.loop-turn.tokens) _ c.loop-turn._turn c.loop-turn-test.true c.loop-turn.invariant in
     first_of (search rules, grind (arith, map-append, common_steps))

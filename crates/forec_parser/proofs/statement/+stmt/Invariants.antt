@@ -47,10 +47,10 @@ decreases-for_statement l = 8 * l.depth + 2
 
 abbrev pub invariant-body-loop-turn : goal.invariant-body-loop-turn
 invariant-body-loop-turn l =
-    spec.body max_level (spec.stmt max_level l.depth) l.fn.tokens
-    ≡ spec.body_from max_level (spec.stmt max_level l.depth) (l._turn-end - l._turn) (map statement l.found) l.tokens
+    spec.body max_level (spec.read_statement max_level l.depth) l.fn.tokens
+    ≡ spec.body_from max_level (spec.read_statement max_level l.depth) (l._turn-end - l._turn) (map statement l.found) l.tokens
 
 abbrev pub invariant-launches-loop-turn : goal.invariant-launches-loop-turn
 invariant-launches-loop-turn l =
-    spec.launches max_level (spec.stmt max_level l.depth) l.fn.tokens
-    ≡ separated_from (spec.launch max_level (spec.stmt max_level l.depth)) (l._turn-end - l._turn) (map launch_of l.found) l.tokens
+    spec.launches max_level (spec.read_statement max_level l.depth) l.fn.tokens
+    ≡ separated_from (spec.launch max_level (spec.read_statement max_level l.depth)) (l._turn-end - l._turn) (map launch_of l.found) l.tokens

@@ -1,6 +1,6 @@
 use Rattle.std.proofs.Common.{◌≡◌, ◌∙◌, ap, map}
 use Rattle.forec_kernel.specs.Plain.{stmt}
-use Rattle.loop_check.specs.Views.{text_of}
+use Rattle.loop_check.specs.Views.{indexed_text}
 use Rattle.kernel_lower.specs.declared.measure.Draft.{Draft}
 use Rattle.text_kernel.specs.Items.{functions_of}
 use Rattle.text_kernel.specs.Kernels.{kernel_of}
@@ -11,7 +11,7 @@ use Rattle.kernel_lower.proofs.beyond.chain_words.Goals as goal
 
 pub words_along-requires-clause-ranked : goal.words_along-requires-clause-ranked
 words_along-requires-clause-ranked c =
-    let text = text_of c.args.source.now.globals.index in
+    let text = indexed_text c.args.source.now.globals.index in
     let names = c.args.names.now in
     let k = kernel_of text names in
     let d : Draft = record { threads = c.new.result; texts = c.new-2.result; variables = c.new-3.result; functions = c.in_ok-functions.functions; rows = c.new-4.result } in
@@ -22,7 +22,7 @@ words_along-requires-clause-ranked c =
 
 pub words_along-requires-clause-low : goal.words_along-requires-clause-low
 words_along-requires-clause-low c =
-    let text = text_of c.args.source.now.globals.index in
+    let text = indexed_text c.args.source.now.globals.index in
     let names = c.args.names.now in
     let k = kernel_of text names in
     let d : Draft = record { threads = c.new.result; texts = c.new-2.result; variables = c.new-3.result; functions = c.in_ok-functions.functions; rows = c.new-4.result } in
@@ -33,7 +33,7 @@ words_along-requires-clause-low c =
 
 pub returns : goal.returns
 returns c =
-    let text = text_of c.args.source.now.globals.index in
+    let text = indexed_text c.args.source.now.globals.index in
     let names = c.args.names.now in
     let k = kernel_of text names in
     let d : Draft = record { threads = c.new.result; texts = c.new-2.result; variables = c.new-3.result; functions = c.in_ok-functions.functions; rows = c.new-4.result } in

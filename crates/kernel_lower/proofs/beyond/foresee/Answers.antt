@@ -4,8 +4,8 @@ use Rattle.text_kernel.specs.Kernels.{kernel_of}
 use Rattle.text_kernel.specs.Limits.{limit_of, widest}
 use Rattle.text_sizes.specs.declared.span.Span.{Span}
 use Rattle.text_sizes.specs.Spans.{span_at}
-use Rattle.loop_check.specs.Views.{text_of}
-use Rattle.kernel_lower.specs.Refusals.{Causes}
+use Rattle.loop_check.specs.Views.{indexed_text}
+use Rattle.kernel_lower.specs.Refusals.{HasLowerCause}
 use Rattle.kernel_lower.proofs.Finishing.{as_many}
 use Rattle.kernel_lower.proofs.Reckoning.{at_most, words_told, levels_told, words_cause}
 use Rattle.kernel_lower.proofs.Tallying.{err_passed}
@@ -13,7 +13,7 @@ use Rattle.kernel_lower.proofs.beyond.foresee.Goals as goal
 
 pub returns-clause-words : goal.returns-clause-words
 returns-clause-words c =
-    let text = text_of c.args.index.now in
+    let text = indexed_text c.args.index.now in
     let names = c.args.names.now in
     let first = c.args.first in
     let main = c.span_of-main.result in
@@ -26,15 +26,15 @@ returns-clause-levels c =
     let first = c.args.first in
     let main = c.span_of-main.result in
     let same = c.span_of-main.ensures ∙ (ap (λ l. span_at l first) c.deref.ensures.value ∙ c.in_ok-table.ensures first) in
-    levels_told (text_of c.args.index.now) c.args.names.now first main.levels main.deepest c.max.result c.requires.first (ap (λ (x : Span). x.levels) same) (ap (λ (x : Span). x.deepest) same) c.max.ensures
+    levels_told (indexed_text c.args.index.now) c.args.names.now first main.levels main.deepest c.max.result c.requires.first (ap (λ (x : Span). x.levels) same) (ap (λ (x : Span). x.deepest) same) c.max.ensures
 
 pub returns-in_err-within-clause-fault : goal.returns-in_err-within-clause-fault
 returns-in_err-within-clause-fault c =
-    let text = text_of c.args.index.now in
+    let text = indexed_text c.args.index.now in
     let names = c.args.names.now in
     let first = c.args.first in
     let main = c.span_of-main.result in
     let same = c.span_of-main.ensures ∙ (ap (λ l. span_at l first) c.deref.ensures.value ∙ c.in_ok-table.ensures first) in
     let are = words_told text names first main.slots main.widest c.max-words.result c.requires.first (ap (λ (x : Span). x.slots) same) (ap (λ (x : Span). x.widest) same) c.max-words.ensures in
     let cause = words_cause text names c.args.threads c.max-words.result c.in_err-within.field-0.0 (as_many text names) c.requires.threads c.requires.few are c.in_err-within.ensures.err in
-    err_passed c.from_residual-in_err-within.result c.in_err-within.field-0.0 _ (λ e. Causes e text names) c.from_residual-in_err-within.ensures.1 (λ y e. subst (λ e. Causes e text names) (sym e) cause)
+    err_passed c.from_residual-in_err-within.result c.in_err-within.field-0.0 _ (λ e. HasLowerCause e text names) c.from_residual-in_err-within.ensures.1 (λ y e. subst (λ e. HasLowerCause e text names) (sym e) cause)

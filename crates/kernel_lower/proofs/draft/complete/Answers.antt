@@ -2,7 +2,7 @@ use Rattle.std.proofs.Common.{◌≡◌, ◌∙◌, sym, ap, map}
 use Rattle.forec_tree.specs.Rules as rules
 use Rattle.forec_kernel.specs.Plain.{stmt}
 use Rattle.forec_kernel.specs.Shapes.{plain_thread}
-use Rattle.loop_check.specs.Views.{text_of}
+use Rattle.loop_check.specs.Views.{indexed_text}
 use Rattle.text_kernel.specs.Kernels as kernels
 use Rattle.text_kernel.specs.Kernels.{kernel_of}
 use Rattle.forec_tree.specs.Variables.{variables}
@@ -15,7 +15,7 @@ use Rattle.kernel_lower.proofs.draft.complete.Goals as goal
 
 pub returns : goal.returns
 returns c =
-    let text = text_of c.args.source.now.globals.index in
+    let text = indexed_text c.args.source.now.globals.index in
     let names = c.args.names.now in
     let d = c.args.draft in
     let vs = plain_elements c.in_ok-elements.elements.items in

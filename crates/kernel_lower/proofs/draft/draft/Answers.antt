@@ -4,7 +4,7 @@ use Rattle.forec_tree.specs.Variables.{PlainVariable, variables}
 use Rattle.forec_tree.proofs.VariableCounts.{variables_counted}
 use Rattle.forec_kernel.specs.Plain.{stmt}
 use Rattle.forec_kernel.specs.Shapes.{plain_thread}
-use Rattle.loop_check.specs.Views.{text_of}
+use Rattle.loop_check.specs.Views.{indexed_text}
 use Rattle.text_kernel.specs.Kernels as kernels
 use Rattle.text_kernel.specs.Kernels.{kernel_of, variable_count}
 use Rattle.body_lower.specs.Views.{of_thread}
@@ -18,7 +18,7 @@ use Rattle.kernel_lower.proofs.draft.draft.Goals as goal
 
 pub returns : goal.returns
 returns c =
-    let text = text_of c.args.source.now.globals.index in
+    let text = indexed_text c.args.source.now.globals.index in
     let names = c.args.names.now in
     let first = c.args.first in
     let k = kernel_of text names in

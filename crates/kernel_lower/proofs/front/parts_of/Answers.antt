@@ -3,7 +3,7 @@ use Rattle.forec_tree.specs.Plain as plain
 use Rattle.forec_tree.specs.Pauses.{callees_of}
 use Rattle.forec_tree.specs.Faults.{Leads}
 use Rattle.forec_kernel.specs.WellFormed.{Ranked}
-use Rattle.forec_check.specs.Checked.{text_of, names_of}
+use Rattle.forec_check.specs.Checked.{checked_text, names_of}
 use Rattle.forec_check.specs.Faultless.{Faultless}
 use Rattle.forec_check.proofs.Acyclic.{no_circle}
 use Rattle.loop_check.specs.Views as views
@@ -11,7 +11,7 @@ use Rattle.text_kernel.specs.Kernels.{kernel_of}
 use Rattle.kernel_lower.specs.declared.judge.Amounts.{Amounts}
 use Rattle.text_kernel.specs.declared.limits.Quantity.TheVariants.{Terms}
 use Rattle.text_kernel.specs.Limits.{amount}
-use Rattle.kernel_lower.specs.Refusals.{amount_in, Causes}
+use Rattle.kernel_lower.specs.Refusals.{amount_in, HasLowerCause}
 use Rattle.forec_tree.specs.Variables.{width}
 use Rattle.text_kernel.specs.Items.{globals_of, variable_items, array_items, array_length}
 use Rattle.kernel_lower.specs.Measures.{CallsLow, IsDraft, plain_draft}
@@ -38,29 +38,29 @@ program_terms-requires-clause-free c =
 pub most-requires-clause-ranked : goal.most-requires-clause-ranked
 most-requires-clause-ranked c =
     let kept = c.args.checked.now in
-    let text = text_of kept in
+    let text = checked_text kept in
     let names = names_of kept in
-    let same : views.text_of c.in_ok-source.source.globals.index ≡ text = c.in_ok-source.ensures.text ∙ (ap (map plain.plain_item) c.as_slice-items.ensures ∙ ap plain.program c.program.ensures) in
+    let same : views.indexed_text c.in_ok-source.source.globals.index ≡ text = c.in_ok-source.ensures.text ∙ (ap (map plain.plain_item) c.as_slice-items.ensures ∙ ap plain.program c.program.ensures) in
     let is : IsDraft (kernel_of text names) c.in_ok-draft.draft = subst (λ k. IsDraft k c.in_ok-draft.draft) (ap (λ t. kernel_of t c.args.names.now) same ∙ ap (kernel_of text) c.requires.names) c.in_ok-draft.ensures in
     ranked_same (plain_draft c.in_ok-draft.draft) (kernel_of text names) (draft_alike (kernel_of text names) c.in_ok-draft.draft is) (ranked text names (clean_of text names kept.faultless))
 
 pub most-requires-clause-low : goal.most-requires-clause-low
 most-requires-clause-low c =
     let kept = c.args.checked.now in
-    let text = text_of kept in
+    let text = checked_text kept in
     let names = names_of kept in
-    let same : views.text_of c.in_ok-source.source.globals.index ≡ text = c.in_ok-source.ensures.text ∙ (ap (map plain.plain_item) c.as_slice-items.ensures ∙ ap plain.program c.program.ensures) in
+    let same : views.indexed_text c.in_ok-source.source.globals.index ≡ text = c.in_ok-source.ensures.text ∙ (ap (map plain.plain_item) c.as_slice-items.ensures ∙ ap plain.program c.program.ensures) in
     let is : IsDraft (kernel_of text names) c.in_ok-draft.draft = subst (λ k. IsDraft k c.in_ok-draft.draft) (ap (λ t. kernel_of t c.args.names.now) same ∙ ap (kernel_of text) c.requires.names) c.in_ok-draft.ensures in
     low_same (plain_draft c.in_ok-draft.draft) (kernel_of text names) (draft_alike (kernel_of text names) c.in_ok-draft.draft is) (calls_low text names (clean_of text names kept.faultless))
 
 pub returns-in_err-judge-clause-fault : goal.returns-in_err-judge-clause-fault
 returns-in_err-judge-clause-fault c =
     let kept = c.args.checked.now in
-    let text = text_of kept in
+    let text = checked_text kept in
     let names = names_of kept in
     let k = kernel_of text names in
     let d = c.in_ok-draft.draft in
-    let same : views.text_of c.in_ok-source.source.globals.index ≡ text = c.in_ok-source.ensures.text ∙ (ap (map plain.plain_item) c.as_slice-items.ensures ∙ ap plain.program c.program.ensures) in
+    let same : views.indexed_text c.in_ok-source.source.globals.index ≡ text = c.in_ok-source.ensures.text ∙ (ap (map plain.plain_item) c.as_slice-items.ensures ∙ ap plain.program c.program.ensures) in
     let all : map plain.plain_item c.as_slice-items.result.now ≡ text = ap (map plain.plain_item) c.as_slice-items.ensures ∙ ap plain.program c.program.ensures in
     let is : IsDraft k d = subst (λ k. IsDraft k d) (ap (λ t. kernel_of t c.args.names.now) same ∙ ap (kernel_of text) c.requires.names) c.in_ok-draft.ensures in
     let alike = draft_alike k d is in
@@ -70,16 +70,16 @@ returns-in_err-judge-clause-fault c =
     (c.in_ok-terms.ensures ∙ ap (λ k. min (amount Terms k) (2 ^ 64 - 1)) (ap (λ t. kernel_of t c.args.names.now) same ∙ ap (kernel_of text) c.requires.names))
     (c.in_ok-peak.ensures.depth ∙ ap (λ n. min n (2 ^ 64 - 1)) (depth_amounts (plain_draft d) k alike)) in
     let cause = first_causes text names (amount_in a) c.in_err-judge.field-0.0 near c.in_err-judge.ensures.err in
-    err_passed c.from_residual-in_err-judge.result c.in_err-judge.field-0.0 _ (λ e. Causes e text names) c.from_residual-in_err-judge.ensures.1 (λ y e. subst (λ e. Causes e text names) (sym e) cause)
+    err_passed c.from_residual-in_err-judge.result c.in_err-judge.field-0.0 _ (λ e. HasLowerCause e text names) c.from_residual-in_err-judge.ensures.1 (λ y e. subst (λ e. HasLowerCause e text names) (sym e) cause)
 
 pub returns-clause-within : goal.returns-clause-within
 returns-clause-within c =
     let kept = c.args.checked.now in
-    let text = text_of kept in
+    let text = checked_text kept in
     let names = names_of kept in
     let k = kernel_of text names in
     let d = c.in_ok-draft.draft in
-    let same : views.text_of c.in_ok-source.source.globals.index ≡ text = c.in_ok-source.ensures.text ∙ (ap (map plain.plain_item) c.as_slice-items.ensures ∙ ap plain.program c.program.ensures) in
+    let same : views.indexed_text c.in_ok-source.source.globals.index ≡ text = c.in_ok-source.ensures.text ∙ (ap (map plain.plain_item) c.as_slice-items.ensures ∙ ap plain.program c.program.ensures) in
     let all : map plain.plain_item c.as_slice-items.result.now ≡ text = ap (map plain.plain_item) c.as_slice-items.ensures ∙ ap plain.program c.program.ensures in
     let is : IsDraft k d = subst (λ k. IsDraft k d) (ap (λ t. kernel_of t c.args.names.now) same ∙ ap (kernel_of text) c.requires.names) c.in_ok-draft.ensures in
     let alike = draft_alike k d is in
@@ -99,18 +99,18 @@ foresee-requires-clause-free c =
 pub beyond-requires-clause-ranked : goal.beyond-requires-clause-ranked
 beyond-requires-clause-ranked c =
     let kept = c.args.checked.now in
-    let text = text_of kept in
+    let text = checked_text kept in
     let names = names_of kept in
-    let same : views.text_of c.in_ok-source.source.globals.index ≡ text = c.in_ok-source.ensures.text ∙ (ap (map plain.plain_item) c.as_slice-items.ensures ∙ ap plain.program c.program.ensures) in
+    let same : views.indexed_text c.in_ok-source.source.globals.index ≡ text = c.in_ok-source.ensures.text ∙ (ap (map plain.plain_item) c.as_slice-items.ensures ∙ ap plain.program c.program.ensures) in
     let equal = ap (λ t. kernel_of t c.args.names.now) same ∙ ap (kernel_of text) c.requires.names in
     subst Ranked (sym equal) (ranked text names (clean_of text names kept.faultless))
 
 pub beyond-requires-clause-low : goal.beyond-requires-clause-low
 beyond-requires-clause-low c =
     let kept = c.args.checked.now in
-    let text = text_of kept in
+    let text = checked_text kept in
     let names = names_of kept in
-    let same : views.text_of c.in_ok-source.source.globals.index ≡ text = c.in_ok-source.ensures.text ∙ (ap (map plain.plain_item) c.as_slice-items.ensures ∙ ap plain.program c.program.ensures) in
+    let same : views.indexed_text c.in_ok-source.source.globals.index ≡ text = c.in_ok-source.ensures.text ∙ (ap (map plain.plain_item) c.as_slice-items.ensures ∙ ap plain.program c.program.ensures) in
     let equal = ap (λ t. kernel_of t c.args.names.now) same ∙ ap (kernel_of text) c.requires.names in
     subst CallsLow (sym equal) (calls_low text names (clean_of text names kept.faultless))
 
@@ -123,12 +123,12 @@ beyond-requires-clause-free c =
 pub beyond-requires-clause-faultless : goal.beyond-requires-clause-faultless
 beyond-requires-clause-faultless c =
     let kept = c.args.checked.now in
-    let text = text_of kept in
-    let same : views.text_of c.in_ok-source.source.globals.index ≡ text = c.in_ok-source.ensures.text ∙ (ap (map plain.plain_item) c.as_slice-items.ensures ∙ ap plain.program c.program.ensures) in
+    let text = checked_text kept in
+    let same : views.indexed_text c.in_ok-source.source.globals.index ≡ text = c.in_ok-source.ensures.text ∙ (ap (map plain.plain_item) c.as_slice-items.ensures ∙ ap plain.program c.program.ensures) in
     subst (λ t. Faultless t c.args.names.now) (sym same) (subst (Faultless text) (sym c.requires.names) kept.faultless)
 
 pub beyond-requires-clause-variables : goal.beyond-requires-clause-variables
 beyond-requires-clause-variables c =
     let gs = globals_of c.in_ok-globals.globals.items in
-    variables_amount (views.text_of c.in_ok-source.source.globals.index) c.args.names.now c.variable_total-variables.result gs (c.in_ok-globals.ensures ∙ ap variable_items (sym c.in_ok-source.ensures.text))
+    variables_amount (views.indexed_text c.in_ok-source.source.globals.index) c.args.names.now c.variable_total-variables.result gs (c.in_ok-globals.ensures ∙ ap variable_items (sym c.in_ok-source.ensures.text))
     (c.variable_total-variables.ensures ∙ ap (λ l. min (sum (map width (globals_of l))) (2 ^ 64 - 1)) c.deref-2.ensures.value)

@@ -1,5 +1,5 @@
 use Rattle.std.proofs.Common.{◌+◌, map, sym, ap, drop}
-use Rattle.loop_check.specs.Views.{text_of}
+use Rattle.loop_check.specs.Views.{indexed_text}
 use Rattle.text_kernel.specs.Kernels.{variable_shape}
 use Rattle.kernel_lower.specs.Elements.{plain_element, plain_elements}
 use Rattle.kernel_lower.proofs.Assembled.{appended_more}
@@ -8,7 +8,7 @@ use Rattle.kernel_lower.proofs.variables.shapes.Goals as goal
 
 pub loop-e-preserved : goal.loop-e-preserved
 loop-e-preserved c =
-    let text = text_of c.args.globals.now.index in
+    let text = indexed_text c.args.globals.now.index in
     let names = c.args.names.now in
     let list = c.args.elements.now in
     let i = c.loop-e.e-index in

@@ -2,8 +2,8 @@ use Rattle.std.proofs.Common.{◌≡◌, ◌∙◌, refl, ap, sym, subst}
 use Rattle.forec_kernel.specs.Shapes.{plain_kernel}
 use Rattle.forec_kernel.specs.Texts.{uses_of}
 use Rattle.forec_kernel.specs.Steps.{text_move}
-use Rattle.running_threads.specs.Views.{focused, plain_thread}
-use Rattle.kernel_meaning.specs.Moving.{origin, IsForked, IsMoved}
+use Rattle.running_threads.specs.Views.{focused, plain_running_thread}
+use Rattle.kernel_meaning.specs.Moving.{origin, IsChildStep, IsMoved}
 use Rattle.kernel_meaning.proofs.Threads.{forked_step, quiet_step}
 use Rattle.kernel_meaning.proofs.steps.+stepping.Goals as goal
 
@@ -11,7 +11,7 @@ pub thread_step-returns-then-runs_below : goal.thread_step-returns-then-runs_bel
 thread_step-returns-then-runs_below t c =
     let k = plain_kernel c.args.kernel.now in
     let old = c.args.t.now in
-    forked_step k c.args.path.now _ _ (plain_thread old) _ old.frames.items (focused old.focus) (focused c.fork_step.new.focus) _ refl refl
+    forked_step k c.args.path.now _ _ (plain_running_thread old) _ old.frames.items (focused old.focus) (focused c.fork_step.new.focus) _ refl refl
     (c.fork_step.ensures (uses_of k old.number) old.words.items old.copies.items)
 
 pub thread_step-returns : goal.thread_step-returns
@@ -19,5 +19,5 @@ thread_step-returns t c =
     let k = plain_kernel c.args.kernel.now in
     let old = c.args.t.now in
     let uses : c.thread_uses-uses.result.now ≡ uses_of k old.number = c.thread_uses-uses.ensures in
-    quiet_step k c.args.path.now _ _ (plain_thread old) _ old.frames.items (focused old.focus) _ refl
+    quiet_step k c.args.path.now _ _ (plain_running_thread old) _ old.frames.items (focused old.focus) _ refl
     (rw uses at (c.after_step.ensures _ _ _ (rw (c.deref.ensures.value, c.deref-2.ensures.value) at (c.focus_step-step.ensures c.args.path.now))))

@@ -1,7 +1,7 @@
 use Rattle.std.proofs.Common.{ap, SFits, w32, rules}
 use Rattle.std.proofs.lemmas.Int.{to_z-of_z}
 use Rattle.forec_kernel.specs.Texts as plain
-use Rattle.running_threads.specs.Views.{plugged, plain_thread}
+use Rattle.running_threads.specs.Views.{plugged, plain_running_thread}
 use Rattle.kernel_meaning.proofs.Threads.{after_goes}
 use Rattle.kernel_meaning.proofs.steps.set.Goals as goal
 
@@ -10,8 +10,8 @@ returns-in-Local c = λ u.
     let t = c.args.t.now in
     let fits : SFits w32 c.args.value = search rules in
     rw c.in-Local.is
-    (after_goes (plain_thread t) _ t.frames.items t.words.items _ t.copies.items _ plain.Done u
-    (ap (λ l. record (plain_thread t) { text = plugged t.frames.items plain.Done; words = l }) (simp to_z-of_z at c.set_word.ensures)))
+    (after_goes (plain_running_thread t) _ t.frames.items t.words.items _ t.copies.items _ plain.Done u
+    (ap (λ l. record (plain_running_thread t) { text = plugged t.frames.items plain.Done; words = l }) (simp to_z-of_z at c.set_word.ensures)))
 
 pub returns-in-Variable : goal.returns-in-Variable
 returns-in-Variable c = λ u.

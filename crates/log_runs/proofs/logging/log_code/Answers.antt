@@ -3,7 +3,7 @@ use Rattle.forec_base.specs.declared.limits.TheConstants.{MAX_ROWS}
 use Rattle.forec_kernel.specs.Shapes.{PlainShape, plain_shape, plain_kernel}
 use Rattle.thread_code.specs.Plain.{plain_code}
 use Rattle.core_host.specs.Hosted.{code_of}
-use Rattle.core_host.specs.Runs.{HasRun}
+use Rattle.core_host.specs.Runs.{HostHasRun}
 use Rattle.trace_runs.specs.Formats.{format_for}
 use Rattle.trace_runs.specs.KernelNames.{outputs_of}
 use Rattle.trace_runs.specs.declared.format.Telling.TheVariants as telling
@@ -23,7 +23,7 @@ pub returns-in-ReadFault : goal.returns-in-ReadFault
 returns-in-ReadFault g c =
     let k = plain_kernel c.args.kernel.now in
     let host = c.in-Ok.ticker in
-    let starts = code_starts (plain_code c.args.code.now) (code_of host) (HasRun host) k (ap plain_code c.in-Ok.ensures.code_is) c.shape.ensures.well_formed c.requires.stands c.in-Ok.ensures.none in
+    let starts = code_starts (plain_code c.args.code.now) (code_of host) (HostHasRun host) k (ap plain_code c.in-Ok.ensures.code_is) c.shape.ensures.well_formed c.requires.stands c.in-Ok.ensures.none in
     let made = c.in-Ok-new.ensures in
     let told = made.format ∙ ap (λ (s : PlainShape). format_for telling.Report (outputs_of s)) (ap plain_shape c.shape-2.ensures.same ∙ c.requires.stands.shape) in
     log_unread g.S.Source.left g.S.Source.faults g.S.Source.down g.K.Sink.held g.K.Sink.faults g.K.Sink.down _ _ _ MAX_ROWS _ _ k c.args.budget _ _ _ _ _ _ _ made.limit told made.budget (c.run.ensures.runs k starts) c.args.out.now c.in-ReadFault.is
@@ -32,7 +32,7 @@ pub returns-in-WriteFault : goal.returns-in-WriteFault
 returns-in-WriteFault g c =
     let k = plain_kernel c.args.kernel.now in
     let host = c.in-Ok.ticker in
-    let starts = code_starts (plain_code c.args.code.now) (code_of host) (HasRun host) k (ap plain_code c.in-Ok.ensures.code_is) c.shape.ensures.well_formed c.requires.stands c.in-Ok.ensures.none in
+    let starts = code_starts (plain_code c.args.code.now) (code_of host) (HostHasRun host) k (ap plain_code c.in-Ok.ensures.code_is) c.shape.ensures.well_formed c.requires.stands c.in-Ok.ensures.none in
     let made = c.in-Ok-new.ensures in
     let told = made.format ∙ ap (λ (s : PlainShape). format_for telling.Report (outputs_of s)) (ap plain_shape c.shape-2.ensures.same ∙ c.requires.stands.shape) in
     log_unkept g.S.Source.left g.S.Source.faults g.S.Source.down g.K.Sink.held g.K.Sink.faults g.K.Sink.down _ _ _ MAX_ROWS _ _ k c.args.budget _ _ _ _ _ _ _ made.limit told made.budget (c.run.ensures.runs k starts) c.args.out.now
@@ -41,7 +41,7 @@ pub returns : goal.returns
 returns g c =
     let k = plain_kernel c.args.kernel.now in
     let host = c.in-Ok.ticker in
-    let starts = code_starts (plain_code c.args.code.now) (code_of host) (HasRun host) k (ap plain_code c.in-Ok.ensures.code_is) c.shape.ensures.well_formed c.requires.stands c.in-Ok.ensures.none in
+    let starts = code_starts (plain_code c.args.code.now) (code_of host) (HostHasRun host) k (ap plain_code c.in-Ok.ensures.code_is) c.shape.ensures.well_formed c.requires.stands c.in-Ok.ensures.none in
     let made = c.in-Ok-new.ensures in
     let told = made.format ∙ ap (λ (s : PlainShape). format_for telling.Report (outputs_of s)) (ap plain_shape c.shape-2.ensures.same ∙ c.requires.stands.shape) in
     let end = c.in_default-run in

@@ -1,5 +1,5 @@
 use Rattle.std.proofs.Common.{◌≡◌, ◌∙◌, sym, ap, subst, true, false, get_or, set}
-use Rattle.loop_check.specs.Graph.{callees, any_waits, Waits}
+use Rattle.loop_check.specs.Graph.{callees, any_waits, MarksUnordered}
 use Rattle.loop_check.proofs.Ordered.{trues_clear, visited}
 use Rattle.loop_check.proofs.graph.visit.Goals as goal
 
@@ -15,4 +15,4 @@ returns-clause-waits c =
     ap (λ xs. get_or xs c.args.f false) (sym c.deref.ensures.value) ∙ sym c.is_waiting.ensures ∙ c.if-not-is_waiting.false in
     let next = visited c.args.functions.now calls marks c.args.order.now.items c.args.f c.requires m
     (ap (λ xs. any_waits xs (calls c.args.f)) (sym c.deref-2.ensures.value) ∙ sym c.any_callee_waits.ensures ∙ c.if-any_callee_waits.false) in
-    subst (λ o. Waits c.args.functions.now calls (set marks c.args.f false) o) (sym c.in_ok-push.ensures.items) next
+    subst (λ o. MarksUnordered c.args.functions.now calls (set marks c.args.f false) o) (sym c.in_ok-push.ensures.items) next

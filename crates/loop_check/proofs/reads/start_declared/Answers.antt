@@ -5,7 +5,7 @@ use Rattle.forec_tree.specs.Plain.{terms}
 use Rattle.forec_tree.specs.Turns as form
 use Rattle.loop_check.proofs.reads.start_declared.Goals as goal
 
-several : (id : ℕ) (size : Option Number) (xs slice : List Expr) → slice ≡ xs → 2 ≤ length slice → None ≡ form.paired_term id (form.one_value size (terms xs))
+several : (id : ℕ) (size : Option Number) (xs slice : List Expr) → slice ≡ xs → 2 ≤ length slice → None ≡ form.paired_term id (form.single_value size (terms xs))
 several id (Some n) xs slice e h = refl
 several id None [] slice e h = let d = ap length e in absurd (omega (arith, d))
 several id None (x ∷ []) slice e h = let d = ap length e in absurd (omega (arith, d))

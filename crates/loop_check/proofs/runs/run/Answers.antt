@@ -2,16 +2,16 @@ use Rattle.std.proofs.Common.{◌≡◌, pos, neg_ℤ, ℕ, Option, ◌+ℤ◌, 
 use Rattle.std.specs.Prelude.{int_le}
 use Rattle.std.proofs.lemmas.Int.{ints}
 use Rattle.forec_base.specs.declared.operators.Binary.TheVariants.{Le, Ge}
-use Rattle.forec_tree.specs.Turns.{run_of}
+use Rattle.forec_tree.specs.Turns.{values_passed}
 use Rattle.loop_check.specs.declared.parts.Form.{Form}
 use Rattle.loop_check.specs.Forms.{run_form}
 use Rattle.loop_check.proofs.Arithmetic.{up_to, down_to}
 use Rattle.loop_check.proofs.runs.run.Goals as goal
 
-form_le : (f : Form) (r : Option ℕ) → f.test ≡ Le → r ≡ run_of 1000001 (λ v. int_le v f.bound) (pos f.by) f.number → r ≡ run_form f
+form_le : (f : Form) (r : Option ℕ) → f.test ≡ Le → r ≡ values_passed 1000001 (λ v. int_le v f.bound) (pos f.by) f.number → r ≡ run_form f
 form_le f r h g = rw h g
 
-form_ge : (f : Form) (r : Option ℕ) → f.test ≡ Ge → r ≡ run_of 1000001 (λ v. int_le f.bound v) (neg_ℤ (pos f.by)) f.number → r ≡ run_form f
+form_ge : (f : Form) (r : Option ℕ) → f.test ≡ Ge → r ≡ values_passed 1000001 (λ v. int_le f.bound v) (neg_ℤ (pos f.by)) f.number → r ≡ run_form f
 form_ge f r h g = rw h g
 
 pub returns-in-Le : goal.returns-in-Le

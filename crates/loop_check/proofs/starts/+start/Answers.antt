@@ -8,17 +8,17 @@ use Rattle.loop_check.proofs.starts.+start.Goals.{branches_started-in-Call+in_ok
 
 pub started-returns-in-Group : goal.started-returns-in-Group
 started-returns-in-Group t c =
-    let e = of_group (λ s. c.args.list.now.items ++ pauses.started s) c.args.s.now c.in-Group.body c.as_slice.result.now c.in-Group.is c.as_slice.ensures in
+    let e = of_group (λ s. c.args.list.now.items ++ pauses.started_names s) c.args.s.now c.in-Group.body c.as_slice.result.now c.in-Group.is c.as_slice.ensures in
     subst (λ x. OnOk c.all_started.result (c.all_started.new.list.items ≡ x)) e c.all_started.ensures
 
 pub started-returns-in-Par : goal.started-returns-in-Par
 started-returns-in-Par t c =
-    let e = of_par (λ s. c.args.list.now.items ++ pauses.started s) c.args.s.now c.in-Par.branches c.as_slice-in-Par.result.now c.in-Par.is c.as_slice-in-Par.ensures in
+    let e = of_par (λ s. c.args.list.now.items ++ pauses.started_names s) c.args.s.now c.in-Par.branches c.as_slice-in-Par.result.now c.in-Par.is c.as_slice-in-Par.ensures in
     subst (λ x. OnOk c.branches_started.result (c.branches_started.new.list.items ≡ x)) e c.branches_started.ensures
 
 pub started-returns-in-Abort : goal.started-returns-in-Abort
 started-returns-in-Abort t c =
-    let e = of_abort (λ s. c.args.list.now.items ++ pauses.started s) c.args.s.now c.in-Abort.weak c.in-Abort.immediate c.in-Abort.test c.in-Abort.body
+    let e = of_abort (λ s. c.args.list.now.items ++ pauses.started_names s) c.args.s.now c.in-Abort.weak c.in-Abort.immediate c.in-Abort.test c.in-Abort.body
     c.as_slice-in-Abort.result.now c.in-Abort.is c.as_slice-in-Abort.ensures in
     subst (λ x. OnOk c.all_started-in-Abort.result (c.all_started-in-Abort.new.list.items ≡ x)) e c.all_started-in-Abort.ensures
 

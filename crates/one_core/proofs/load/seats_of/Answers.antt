@@ -2,7 +2,7 @@ use Rattle.std.proofs.Common.{◌+◌, Some, length, sym, ap, ◌∙◌, subst, 
 use Rattle.std.specs.Prelude.{slice_get}
 use Rattle.thread_code.specs.Plain.{plain_code}
 use Rattle.tick_jobs.proofs.Lists.{get_then, length_then}
-use Rattle.one_core.specs.Loads.{IsNew}
+use Rattle.one_core.specs.Loads.{IsNewThread}
 use Rattle.one_core.proofs.load.seats_of.Goals as goal
 
 pub loop-thread-preserved : goal.loop-thread-preserved
@@ -12,6 +12,6 @@ loop-thread-preserved c =
     record {
       count = ap length items ∙ length_then c.loop-thread.seats.items (Some made) ∙ ap (λ n. n + 1) c.loop-thread.invariant.count;
       each = λ t s at.
-          ⊎_elim (λ p. (made, p.1, subst (λ n. IsNew (plain_code c.args.code.now) n made) (sym (p.0 ∙ c.loop-thread.invariant.count)) c.in_ok-thread_of.ensures))
+          ⊎_elim (λ p. (made, p.1, subst (λ n. IsNewThread (plain_code c.args.code.now) n made) (sym (p.0 ∙ c.loop-thread.invariant.count)) c.in_ok-thread_of.ensures))
           (λ old. c.loop-thread.invariant.each t s old) (get_then c.loop-thread.seats.items (Some made) t s (ap (λ l. slice_get l t) (sym items) ∙ at));
     }

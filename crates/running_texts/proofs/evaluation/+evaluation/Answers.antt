@@ -6,7 +6,7 @@ use Rattle.forec_kernel.specs.Plain.{expr, stmt}
 use Rattle.forec_kernel.specs.Terms as plain
 use Rattle.forec_kernel.proofs.VecTerms.{expr-call, stmt-sequence}
 use Rattle.forec_kernel.specs.Values.{value_then, more_units, function_words, fresh_words, val, vals, flow, words_alone, flow_with, more_flow}
-use Rattle.running_texts.specs.Metered.{IsMetered, number, flowing, setting_within, sight_of}
+use Rattle.running_texts.specs.Metered.{IsMetered, value_kind, flowing, setting_within, sight_of}
 use Rattle.running_texts.proofs.Falls.{expression_within, statement_within, call_falls, call_depth, sequence_depth}
 use Rattle.running_texts.proofs.Tests.{zero_of, nonzero_of, and_zero, and_some, and_err, or_some, or_zero, or_err, choose_no, choose_yes, choose_err, call_ok, call_over, call_err, if_no, if_yes, if_err}
 use Rattle.running_texts.proofs.MeteredLemmas.{then_ok, then_err, binds_value, adds_number, binds_flow, adds_flow}
@@ -52,12 +52,12 @@ evaluate-returns-in-Ok t c =
     let fits : SFits w32 c.in-Ok.a = search rules in
     let rest = simp to_z-of_z at (c.after_binary.ensures _ _ c.evaluate-part-in-Ok.ensures) in
     rw (c.in-Binary.is, ← c.deref-in-Binary.ensures, ← c.deref-in-Ok.ensures)
-    (then_ok number number (λ x. x) value_then more_units binds_value adds_number _ _ _ _ _ _ _ c.in-Ok.ensures rest)
+    (then_ok value_kind value_kind (λ x. x) value_then more_units binds_value adds_number _ _ _ _ _ _ _ c.in-Ok.ensures rest)
 
 pub evaluate-returns-in-Binary : goal.evaluate-returns-in-Binary
 evaluate-returns-in-Binary t c =
     rw (c.in-Binary.is, ← c.deref-in-Binary.ensures)
-    (then_err number number (λ x. x) value_then more_units binds_value _ _ _ _ _ c.in-Err.ensures)
+    (then_err value_kind value_kind (λ x. x) value_then more_units binds_value _ _ _ _ _ c.in-Err.ensures)
 
 pub evaluate-returns-in-And : goal.evaluate-returns-in-And
 evaluate-returns-in-And t c =
@@ -67,7 +67,7 @@ evaluate-returns-in-And t c =
     ∙ ap (λ x. value (plain.And (expr c.in-And.first.value) (expr x))) c.deref-in-And-2.ensures
     ∙ ap (λ x. value (expr x)) (sym c.in-And.is)
     in
-    subst (λ v. IsMetered number c.args.left.now c.evaluate_and.new.left c.evaluate_and.result v) same c.evaluate_and.ensures
+    subst (λ v. IsMetered value_kind c.args.left.now c.evaluate_and.new.left c.evaluate_and.result v) same c.evaluate_and.ensures
 
 pub evaluate-returns-in-Or : goal.evaluate-returns-in-Or
 evaluate-returns-in-Or t c =
@@ -77,7 +77,7 @@ evaluate-returns-in-Or t c =
     ∙ ap (λ x. value (plain.Or (expr c.in-Or.first.value) (expr x))) c.deref-in-Or-2.ensures
     ∙ ap (λ x. value (expr x)) (sym c.in-Or.is)
     in
-    subst (λ v. IsMetered number c.args.left.now c.evaluate_or.new.left c.evaluate_or.result v) same c.evaluate_or.ensures
+    subst (λ v. IsMetered value_kind c.args.left.now c.evaluate_or.new.left c.evaluate_or.result v) same c.evaluate_or.ensures
 
 pub evaluate_and-returns-then-n-eq0 : goal.evaluate_and-returns-then-n-eq0
 evaluate_and-returns-then-n-eq0 t c =
@@ -183,12 +183,12 @@ run-returns-in-Ok t c =
     let part = rw (c.only_words-in-Ok.ensures, c.deref-in-Ok.ensures.value) at c.evaluate-part-in-Ok.ensures in
     let rest = simp to_z-of_z at (c.after_set_at.ensures _ _ part) in
     rw c.in-SetAt.is
-    (then_ok number flowing (λ x. x) flow_with more_flow binds_flow adds_flow _ _ _ _ _ _ _ (rw (c.only_words-in-SetAt.ensures, c.deref-in-SetAt.ensures.value) at c.in-Ok.ensures) rest)
+    (then_ok value_kind flowing (λ x. x) flow_with more_flow binds_flow adds_flow _ _ _ _ _ _ _ (rw (c.only_words-in-SetAt.ensures, c.deref-in-SetAt.ensures.value) at c.in-Ok.ensures) rest)
 
 pub run-returns-in-Err : goal.run-returns-in-Err
 run-returns-in-Err t c =
     rw c.in-SetAt.is
-    (then_err number flowing (λ x. x) flow_with more_flow binds_flow _ _ _ _ _ (rw (c.only_words-in-SetAt.ensures, c.deref-in-SetAt.ensures.value) at c.in-Err.ensures))
+    (then_err value_kind flowing (λ x. x) flow_with more_flow binds_flow _ _ _ _ _ (rw (c.only_words-in-SetAt.ensures, c.deref-in-SetAt.ensures.value) at c.in-Err.ensures))
 
 pub run-returns-in-Sequence : goal.run-returns-in-Sequence
 run-returns-in-Sequence t c =

@@ -5,7 +5,7 @@ use Rattle.forec_tree.proofs.Rows.{of_group, of_abort, of_par, branch-group}
 use Rattle.text_sizes.proofs.Tallied.{terms_length}
 use Rattle.text_chains.specs.declared.tally.Tally.{Tally}
 use Rattle.text_chains.specs.Tallies as of
-use Rattle.text_chains.specs.Tallies.{joined, calling, started, tally_at}
+use Rattle.text_chains.specs.Tallies.{both_tallies, call_tally, branch_tally, tally_at}
 use Rattle.text_chains.specs.Views.{value_by}
 use Rattle.text_chains.proofs.Sums.{both, named_byte, begin_low, begin_told, all_low, branches_low}
 use Rattle.text_chains.proofs.bodies.+statement.Goals as goal
@@ -34,9 +34,9 @@ branch-returns-in-Call-clause-tally t c rest =
     let table = c.args.table.now in
     let all : tree.Branches → Tally = of.branches_tally w.variable w.array (value_by w) w.worth (tally_at table) c.args.hidden in
     let args = c.as_slice-args.ensures in
-    let own = c.started-own.ensures ∙ (ap (started (length c.as_slice-args.result.now)) c.known_of-known.ensures ∙ ap (λ n. started n (tally_at table c.in-Call.name.id)) (ap (λ l. length l) args ∙ terms_length c.in-Call.args)) in
+    let own = c.started-own.ensures ∙ (ap (branch_tally (length c.as_slice-args.result.now)) c.known_of-known.ensures ∙ ap (λ n. branch_tally n (tally_at table c.in-Call.name.id)) (ap (λ l. length l) args ∙ terms_length c.in-Call.args)) in
     let base = c.joined.ensures ∙ both _ _ _ _ (c.terms.ensures ∙ ap (λ l. of.of_terms w.variable w.array (value_by w) c.args.hidden (terms l)) args) own in
-    ap (λ x. joined x (all rest)) base ∙ ap (λ b. all (branch_with b rest)) (sym c.in-Call.is)
+    ap (λ x. both_tallies x (all rest)) base ∙ ap (λ b. all (branch_with b rest)) (sym c.in-Call.is)
 
 pub branch-returns-in-Group-clause-tally : goal.branch-returns-in-Group-clause-tally
 branch-returns-in-Group-clause-tally t c rest =
@@ -44,7 +44,7 @@ branch-returns-in-Group-clause-tally t c rest =
     let table = c.args.table.now in
     let all : tree.Branches → Tally = of.branches_tally w.variable w.array (value_by w) w.worth (tally_at table) c.args.hidden in
     let body = c.all-body.ensures ∙ ap (λ l. of.all_tally w.variable w.array (value_by w) w.worth (tally_at table) false (statements l)) c.as_slice.ensures in
-    ap (λ x. joined x (all rest)) (c.started.ensures ∙ ap (started 0) body) ∙ (ap all (sym (branch-group c.in-Group.place c.in-Group.body rest)) ∙ ap (λ b. all (branch_with b rest)) (sym c.in-Group.is))
+    ap (λ x. both_tallies x (all rest)) (c.started.ensures ∙ ap (branch_tally 0) body) ∙ (ap all (sym (branch-group c.in-Group.place c.in-Group.body rest)) ∙ ap (λ b. all (branch_with b rest)) (sym c.in-Group.is))
 
 abbrev one_if : Bool → ℕ
 one_if b = cond b 1 0
@@ -53,7 +53,7 @@ pub branch-returns-in-Group-clause-naming : goal.branch-returns-in-Group-clause-
 branch-returns-in-Group-clause-naming t c rest =
     let w = c.args.w.now in
     let table = c.args.table.now in
-    let all : tree.Branches → ℕ = of.count_naming w.variable w.array (value_by w) w.worth (tally_at table) in
+    let all : tree.Branches → ℕ = of.branches_naming w.variable w.array (value_by w) w.worth (tally_at table) in
     let body = c.all-body.ensures ∙ ap (λ l. of.all_tally w.variable w.array (value_by w) w.worth (tally_at table) false (statements l)) c.as_slice.ensures in
     ap (λ n. n + all rest) (c.from-in-Group.ensures ∙ (named_byte c.all-body.result.named ∙ ap (λ (x : Tally). one_if x.named) body)) ∙ (ap all (sym (branch-group c.in-Group.place c.in-Group.body rest)) ∙ ap (λ b. all (branch_with b rest)) (sym c.in-Group.is))
 
@@ -66,7 +66,7 @@ pub statement-returns-in-Par : goal.statement-returns-in-Par
 statement-returns-in-Par t c =
     let w = c.args.w.now in
     let known = tally_at c.args.table.now in
-    let fold = c.calling.ensures ∙ ap calling (c.folded.ensures known ∙ ap (of.folded w.variable w.array (value_by w) w.worth known) c.branches-all.ensures.naming) in
+    let fold = c.calling.ensures ∙ ap call_tally (c.folded.ensures known ∙ ap (of.calls_worth w.variable w.array (value_by w) w.worth known) c.branches-all.ensures.naming) in
     c.joined-in-Par.ensures
     ∙ (both _ _ _ _ fold c.branches-all.ensures.tally
     ∙ of_par (of.tally w.variable w.array (value_by w) w.worth known c.args.hidden) c.args.s.now c.in-Par.list c.as_slice-in-Par.result.now c.in-Par.is c.as_slice-in-Par.ensures)

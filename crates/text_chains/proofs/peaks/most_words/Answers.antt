@@ -1,43 +1,43 @@
 use Rattle.std.proofs.Common.{ℕ, false, ◌∙◌, max, sym, ap, subst}
 use Rattle.loop_check.specs.Graph.{callees, IsOrder}
-use Rattle.loop_check.specs.Views.{text_of}
+use Rattle.loop_check.specs.Views.{indexed_text}
 use Rattle.text_kernel.specs.Bindings.{number_among, is_int_function}
 use Rattle.text_kernel.specs.Items.{globals_of}
 use Rattle.text_kernel.specs.Kernels.{main_id}
 use Rattle.text_kernel.proofs.Faultless.{clean_of}
-use Rattle.text_chains.specs.Tallies.{value_at}
+use Rattle.text_chains.specs.Tallies.{table_value}
 use Rattle.text_chains.specs.Peaks.{peak_by, peak_over}
-use Rattle.text_chains.specs.Views.{Settled}
+use Rattle.text_chains.specs.Views.{SettlesTallies}
 use Rattle.text_chains.proofs.Agreeing.{tallies_settle}
 use Rattle.text_chains.proofs.PeakLemmas.{most_told}
 use Rattle.text_chains.proofs.peaks.most_words.Goals as goal
 
 pub peak-requires : goal.peak-requires
 peak-requires c =
-    let text = text_of c.args.globals.now.index in
+    let text = indexed_text c.args.globals.now.index in
     let functions = c.in_ok-calls.calls.functions.items in
     let lists = c.in_ok-calls.calls.lists.items in
     let order = c.in_ok-order.order.items in
     let ordered : IsOrder functions (callees lists) order =
     subst (λ l. IsOrder functions (callees l) order) c.deref-2.ensures.value (subst (λ f. IsOrder f (callees c.deref-2.result.now) order) c.deref.ensures.value c.in_ok-order.ensures) in
-    subst (λ o. Settled text o) (sym c.deref-3.ensures.value) (λ i array value worth. tallies_settle i array value worth text functions order (callees lists) c.in_ok-calls.ensures ordered c.requires.free)
+    subst (λ o. SettlesTallies text o) (sym c.deref-3.ensures.value) (λ i array value worth. tallies_settle i array value worth text functions order (callees lists) c.in_ok-calls.ensures ordered c.requires.free)
 
 pub peaks_with-requires : goal.peaks_with-requires
 peaks_with-requires c =
-    let text = text_of c.args.globals.now.index in
+    let text = indexed_text c.args.globals.now.index in
     let functions = c.in_ok-calls.calls.functions.items in
     let lists = c.in_ok-calls.calls.lists.items in
     let order = c.in_ok-order.order.items in
     let ordered : IsOrder functions (callees lists) order =
     subst (λ l. IsOrder functions (callees l) order) c.deref-2.ensures.value (subst (λ f. IsOrder f (callees c.deref-2.result.now) order) c.deref.ensures.value c.in_ok-order.ensures) in
-    subst (λ o. Settled text o) (sym c.deref-4.ensures.value) (λ i array value worth. tallies_settle i array value worth text functions order (callees lists) c.in_ok-calls.ensures ordered c.requires.free)
+    subst (λ o. SettlesTallies text o) (sym c.deref-4.ensures.value) (λ i array value worth. tallies_settle i array value worth text functions order (callees lists) c.in_ok-calls.ensures ordered c.requires.free)
 
 pub returns : goal.returns
 returns c =
-    let text = text_of c.args.globals.now.index in
+    let text = indexed_text c.args.globals.now.index in
     let names = c.args.names.now in
     let main = main_id text names in
-    let u : ℕ → ℕ = value_at c.args.values.now in
+    let u : ℕ → ℕ = table_value c.args.values.now in
     let value : ℕ → ℕ = λ id. u (number_among is_int_function id text) in
     let a = c.in_ok-most.ensures ∙ ap (peak_by 0 false value 0 text) c.requires.first in
     let b = c.in_ok-with.ensures ∙ (ap (λ f. peak_over value text f (globals_of c.args.variables.now)) c.requires.first ∙ ap (peak_over value text main) c.requires.variables) in

@@ -3,12 +3,12 @@ use Rattle.text_kernel.specs.Items.{functions_of}
 use Rattle.text_sizes.specs.Extents.{extent_at}
 use Rattle.text_sizes.proofs.Amounts.{terms_amount}
 use Rattle.text_sizes.specs.declared.extents.Extent.{Extent}
-use Rattle.loop_check.specs.Views.{text_of}
+use Rattle.loop_check.specs.Views.{indexed_text}
 use Rattle.text_sizes.proofs.extents.program_terms.Goals as goal
 
 pub returns : goal.returns
 returns c =
-    let text = text_of c.args.index.now in
+    let text = indexed_text c.args.index.now in
     let first = c.args.first in
     let same = ap (λ l. extent_at l first) c.deref.ensures.value ∙ c.in_ok-table.ensures first in
     let main = c.known_of-main in

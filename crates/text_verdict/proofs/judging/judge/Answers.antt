@@ -4,9 +4,9 @@ use Rattle.forec_tree.specs.Plain as tree
 use Rattle.forec_tree.specs.SpelledPrograms.{IsSpelled}
 use Rattle.forec_tree.specs.Terms.{Text}
 use Rattle.forec_tree.specs.declared.token.Token.{Token}
-use Rattle.forec_check.specs.Checked.{text_of, names_of}
+use Rattle.forec_check.specs.Checked.{checked_text, names_of}
 use Rattle.forec_check.proofs.NamesBelow.{distinct_names, names_below}
-use Rattle.text_verdict.specs.Judging.{most_levels, OnUnbroken, OnProgram, Says, unbroken}
+use Rattle.text_verdict.specs.Judging.{most_levels, OnUnbroken, OnProgram, GivesVerdict, unbroken}
 use Rattle.text_verdict.proofs.Verdicts.{says_too, said_of_text, said_of_tokens, told, told_of_tokens, told_by_check}
 use Rattle.text_verdict.proofs.judging.judge.Goals as goal
 
@@ -50,9 +50,9 @@ returns c =
     let spells = subst (λ (ts : List Token). IsSpelled most_levels program ts) c.deref.ensures.value c.in_ok-program.ensures.found in
     let checked = c.in_ok-checked.checked in
     let said =
-    says_too (OnUnbroken (text_of checked) (names_of checked)) (OnProgram (text_of checked) (names_of checked)) (λ v x. unbroken checked.faultless x)
+    says_too (OnUnbroken (checked_text checked) (names_of checked)) (OnProgram (checked_text checked) (names_of checked)) (λ v x. unbroken checked.faultless x)
     c.accept.result c.accept.ensures in
-    let named = subst (λ (ns : List (List ℕ)). Says (OnProgram (text_of checked) ns) c.accept.result) c.in_ok-checked.ensures.names said in
-    let whole = subst (λ (t : Text). Says (OnProgram t names) c.accept.result) c.in_ok-checked.ensures.program named in
+    let named = subst (λ (ns : List (List ℕ)). GivesVerdict (OnProgram (checked_text checked) ns) c.accept.result) c.in_ok-checked.ensures.names said in
+    let whole = subst (λ (t : Text). GivesVerdict (OnProgram t names) c.accept.result) c.in_ok-checked.ensures.program named in
     said_of_text c.args.text.now tokens names c.requires c.in_ok-lexed.ensures.ok c.accept.result
     (said_of_tokens c.args.text.now tokens names program spells c.accept.result whole)

@@ -4,7 +4,7 @@ use Rattle.std.specs.Str.{bytes_eq}
 use Rattle.std.proofs.lemmas.Int.{to_z-of_z}
 use Rattle.std.proofs.lemmas.List.{take_rest}
 use Rattle.std.proofs.lemmas.List.Quantifiers.{position-Some}
-use Rattle.trace_rows.specs.Numbers.{number_of}
+use Rattle.trace_rows.specs.Numbers.{word_number}
 use Rattle.trace_rows.specs.Words.{is_blank}
 use Rattle.trace_rows.proofs.ChangeWords.{no_equals, is_no_number, is_no_input, is_change, word_len}
 use Rattle.trace_rows.proofs.changes.change_at.Goals as goal
@@ -18,7 +18,7 @@ returns-in_default-number_at-clause-none c =
     let n = c.in-Some.head.len in
     let h = c.in-Some.ensures.some in
     is_no_number c.args.names.now.texts t n h.1 h.0
-    (subst (λ (r : List ℕ). number_of (take (position_or_len is_blank r) r) ≡ None) (take_rest t (n + 1)) c.in_default-number_at.ensures.none)
+    (subst (λ (r : List ℕ). word_number (take (position_or_len is_blank r) r) ≡ None) (take_rest t (n + 1)) c.in_default-number_at.ensures.none)
 
 pub returns-in_default-find-clause-none : goal.returns-in_default-find-clause-none
 returns-in_default-find-clause-none c =
@@ -35,8 +35,8 @@ returns-clause-some c =
     let fits : SFits w32 number.value = search rules in
     let value : ℤ = to_z w32 (of_z w32 number.value) in
     let len : number.len ≡ position_or_len is_blank (drop (n + 1) t) = says.0 ∙ ap (position_or_len is_blank) (take_rest t (n + 1)) in
-    let good : number_of (take number.len (drop (n + 1) t)) ≡ Some value =
-    sym (ap (λ (r : List ℕ). number_of (take number.len r)) (take_rest t (n + 1))) ∙ says.1 ∙ ap Some (sym (to_z-of_z w32 number.value fits)) in (
+    let good : word_number (take number.len (drop (n + 1) t)) ≡ Some value =
+    sym (ap (λ (r : List ℕ). word_number (take number.len r)) (take_rest t (n + 1))) ∙ says.1 ∙ ap Some (sym (to_z-of_z w32 number.value fits)) in (
       ap (λ l. n + 1 + l) len ∙ word_len c.args.names.now.texts t n h.1 h.0,
       is_change c.args.names.now.texts t n h.1 h.0 c.in-Some-find.input number.len value len c.in-Some-find.ensures good,
       (position-Some (bytes_eq (take n t)) c.args.names.now.texts c.in-Some-find.input [] (sym c.in-Some-find.ensures)).0,

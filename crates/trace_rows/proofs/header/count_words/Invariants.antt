@@ -1,10 +1,10 @@
 use Rattle.std.proofs.Common.{◌≡◌, ◌+◌, ◌≤◌, length}
-use Rattle.trace_rows.specs.Words.{words_of}
+use Rattle.trace_rows.specs.Words.{line_words}
 use Rattle.trace_rows.proofs.header.count_words.Given as goal
 
 abbrev pub invariant-words : goal.invariant-words
 invariant-words l = record {
-  count : l.count + length (words_of l.rest) ≡ length (words_of l.line);
+  count : l.count + length (line_words l.rest) ≡ length (line_words l.line);
   few : l.count + length l.rest ≤ length l.line;
 }
 

@@ -5,7 +5,7 @@ use Rattle.trace_rows.specs.Lines.{is_newline, lines_of}
 use Rattle.trace_rows.specs.Held.{held}
 use Rattle.trace_rows.specs.Reader.{Takes}
 use Rattle.trace_rows.specs.Steps.{NoHeader}
-use Rattle.trace_rows.specs.Trace.{Form, first_form, most_bytes, header_at, rows_of_lines}
+use Rattle.trace_rows.specs.Trace.{Form, first_form, most_line_bytes, header_at, rows_of_lines}
 use Rattle.trace_rows.proofs.Told.{told_map, end_told, LineOf, line_told, takes_first}
 use Rattle.trace_rows.proofs.Heads.{header_bad, header_good, header_fault, no_header, written}
 use Rattle.trace_rows.proofs.steps.take_header.Goals as goal
@@ -34,7 +34,7 @@ returns-in_default-clause-header g c =
     let f = rw c.in-Ok-Row.field-0-is at c.in-Ok-Row.ensures.finds in
     let takes : Takes line w (after_first is_newline bytes) c.find.new.self.ended (left c.args.source.now) (left c.find.new.source) =
     takes_first line w (after_first is_newline bytes) bytes c.find.new.self.ended (left c.args.source.now) (left c.find.new.source) c.find.ensures.came f.1 f.2 c.line.ensures refl in
-    let short : length line ≤ most_bytes = subst (λ (l : List ℕ). length l ≤ most_bytes) (sym c.line.ensures) f.0 in
+    let short : length line ≤ most_line_bytes = subst (λ (l : List ℕ). length l ≤ most_line_bytes) (sym c.line.ensures) f.0 in
     told_map (left c.args.source.now) (left c.find.new.source) (LineOf line w (after_first is_newline bytes)) (λ x y. NoHeader c.args.inputs.now fault.Bad (lines_of (w ++ x)))
     (line_told line w (after_first is_newline bytes) c.find.new.self.ended (left c.args.source.now) (left c.find.new.source) takes c.find.ensures.ended)
     (λ x y e. no_header c.args.inputs.now line fault.Bad (lines_of (w ++ x)) (lines_of (after_first is_newline bytes ++ y)) e
@@ -47,7 +47,7 @@ returns-clause-header g c =
     let bytes : List ℕ = held c.find.new.self in
     let line : List ℕ = c.line.result.now in
     let f = rw c.in-Ok-Row.field-0-is at c.in-Ok-Row.ensures.finds in
-    let short : length line ≤ most_bytes = subst (λ (l : List ℕ). length l ≤ most_bytes) (sym c.line.ensures) f.0 in
+    let short : length line ≤ most_line_bytes = subst (λ (l : List ℕ). length l ≤ most_line_bytes) (sym c.line.ensures) f.0 in
     let same : c.args.places.now.len ≡ length c.read_form.new.places = omega (arith, c.read_form.auto.places, c.deref_mut.ensures.len) in
     let places : List ℕ = take c.args.places.now.len (c.read_form.new.places ++ drop (length c.read_form.new.places) c.args.places.now.items) in
     let is : places ≡ c.read_form.new.places = written c.read_form.new.places c.args.places.now.items c.args.places.now.len same in (
@@ -63,7 +63,7 @@ returns-clause-reads g c =
     let bytes : List ℕ = held c.find.new.self in
     let line : List ℕ = c.line.result.now in
     let f = rw c.in-Ok-Row.field-0-is at c.in-Ok-Row.ensures.finds in
-    let short : length line ≤ most_bytes = subst (λ (l : List ℕ). length l ≤ most_bytes) (sym c.line.ensures) f.0 in
+    let short : length line ≤ most_line_bytes = subst (λ (l : List ℕ). length l ≤ most_line_bytes) (sym c.line.ensures) f.0 in
     let same : c.args.places.now.len ≡ length c.read_form.new.places = omega (arith, c.read_form.auto.places, c.deref_mut.ensures.len) in
     let places : List ℕ = take c.args.places.now.len (c.read_form.new.places ++ drop (length c.read_form.new.places) c.args.places.now.items) in
     let is : places ≡ c.read_form.new.places = written c.read_form.new.places c.args.places.now.items c.args.places.now.len same in

@@ -2,9 +2,9 @@ use Rattle.std.proofs.Common.{◌≡◌, ◌<◌, ℕ, ℤ, List, Some, length, 
 use Rattle.std.proofs.lemmas.Bool.{eqb-false}
 use Rattle.std.proofs.lemmas.Int.{to_z-of_z}
 use Rattle.std.proofs.lemmas.List.{take_rest, length-set}
-use Rattle.trace_rows.specs.Numbers.{number_of}
+use Rattle.trace_rows.specs.Numbers.{word_number}
 use Rattle.trace_rows.specs.Trace.{numbers_in}
-use Rattle.trace_rows.specs.Words.{words_of}
+use Rattle.trace_rows.specs.Words.{line_words}
 use Rattle.trace_rows.proofs.LineNumbers.{numbers_past, numbers_stop, numbers_more, count_more, numbers_all, numbers_few}
 use Rattle.trace_rows.proofs.values.read_numbers.Goals as goal
 
@@ -29,9 +29,9 @@ words-preserved c =
     let says = c.in-Some.ensures.some in
     let fits : SFits w32 number.value = search rules in
     let value : ℤ = to_z w32 (of_z w32 number.value) in
-    let good : number_of (take number.len c.words.rest.now) ≡ Some value = says.1 ∙ ap Some (sym (to_z-of_z w32 number.value fits)) in
+    let good : word_number (take number.len c.words.rest.now) ≡ Some value = says.1 ∙ ap Some (sym (to_z-of_z w32 number.value fits)) in
     let after : List ℕ = c.skip_blanks-rest-in-words.result.now in
-    let same : words_of after ≡ words_of (drop number.len c.words.rest.now) = c.skip_blanks-rest-in-words.ensures.words ∙ ap words_of (take_rest c.words.rest.now number.len) in
+    let same : line_words after ≡ line_words (drop number.len c.words.rest.now) = c.skip_blanks-rest-in-words.ensures.words ∙ ap line_words (take_rest c.words.rest.now number.len) in
     let low : c.words.count < length c.words.values = (let e = c.if-count-values.false in omega (arith, i.within)) in
     record {
       numbers = numbers_more c.words.values c.words.count c.args.line.now c.words.rest.now after number.len value low i.numbers some i.begins says.0 good same;
@@ -44,7 +44,7 @@ pub returns-clause-yes : goal.returns-clause-yes
 returns-clause-yes c = λ full.
     let i = c.words.invariant in
     let z = eqb-true (length c.words.rest.now) 0 (sym c.words-test.ensures) in
-    subst (λ (n : ℕ). numbers_in n (words_of c.args.line.now) ≡ Some c.words.values) c.words.auto.values
+    subst (λ (n : ℕ). numbers_in n (line_words c.args.line.now) ≡ Some c.words.values) c.words.auto.values
     (numbers_all c.words.values c.words.count c.args.line.now c.words.rest.now (eqb-true c.words.count (length c.words.values) full) i.numbers i.count z)
 
 pub returns-clause-no : goal.returns-clause-no

@@ -7,7 +7,7 @@ use Rattle.tick_jobs.specs.Outcomes.{HasOutputs}
 use Rattle.trace_rows.specs.Report.{trap_words, over_words}
 use Rattle.trace_rows.specs.Trace.{Row}
 use Rattle.trace_runs.specs.Formats.{last_written}
-use Rattle.trace_runs.specs.WaitingRoom.{HasRoom}
+use Rattle.trace_runs.specs.WaitingRoom.{HasRoomFor}
 use Rattle.trace_runs.specs.Workload.{zero_row, workload_line}
 use Rattle.trace_runs.specs.declared.waiting.Waiting.{Waiting}
 use Rattle.trace_runs.specs.declared.status.Status.TheVariants as status
@@ -27,16 +27,16 @@ loop-tick-init g c =
     }
 
 pub put_workload-requires : goal.put_workload-requires
-put_workload-requires g c = subst (λ (w : Waiting). HasRoom w 128) (sym c.loop-tick.invariant.waits) c.requires.room
+put_workload-requires g c = subst (λ (w : Waiting). HasRoomFor w 128) (sym c.loop-tick.invariant.waits) c.requires.room
 
 pub put_workload-requires-2 : goal.put_workload-requires-2
-put_workload-requires-2 g c = subst (λ (w : Waiting). HasRoom w 128) (sym c.loop-tick.invariant.waits) c.requires.room
+put_workload-requires-2 g c = subst (λ (w : Waiting). HasRoomFor w 128) (sym c.loop-tick.invariant.waits) c.requires.room
 
 pub put_trap-requires : goal.put_trap-requires
-put_trap-requires g c = let room = subst (λ (w : Waiting). HasRoom w 128) (sym c.loop-tick.invariant.waits) c.requires.room in omega (arith, room)
+put_trap-requires g c = let room = subst (λ (w : Waiting). HasRoomFor w 128) (sym c.loop-tick.invariant.waits) c.requires.room in omega (arith, room)
 
 pub put_over-requires : goal.put_over-requires
-put_over-requires g c = let room = subst (λ (w : Waiting). HasRoom w 128) (sym c.loop-tick.invariant.waits) c.requires.room in omega (arith, room)
+put_over-requires g c = let room = subst (λ (w : Waiting). HasRoomFor w 128) (sym c.loop-tick.invariant.waits) c.requires.room in omega (arith, room)
 
 pub loop-tick-preserved : goal.loop-tick-preserved
 loop-tick-preserved g c =

@@ -5,7 +5,7 @@ use Rattle.forec_kernel.specs.Terms as plain
 use Rattle.forec_kernel.proofs.VecTerms.{stmt-sequence}
 use Rattle.code_gen.specs.Expressions.{expression_code}
 use Rattle.code_gen.specs.Statements.{statement_code, statements_code}
-use Rattle.code_gen.specs.Arounds.{plain_around, perhaps}
+use Rattle.code_gen.specs.Arounds.{plain_around, optional_instruction}
 use Rattle.code_gen.proofs.Patch.{patch_if, patch_loop, abort_written}
 use Rattle.code_gen.proofs.statements.Emitter.+statement.Goals as goal
 
@@ -14,7 +14,7 @@ emit_loop-returns t c =
     let ts = map plain_thread c.args.surroundings.now.threads.now in
     let a = plain_around c.args.surroundings.now.around.now in
     let base = c.args.self.now.steps.items in
-    patch_loop base _ _ _ _ _ (expression_code (length base) (expr c.args.test.now)) (perhaps c.args.turn) (λ b. statement_code ts a b (stmt c.args.body.now)) _ _ _ _ c.in_ok-head.ensures.at c.in_ok-emit_expression.ensures
+    patch_loop base _ _ _ _ _ (expression_code (length base) (expr c.args.test.now)) (optional_instruction c.args.turn) (λ b. statement_code ts a b (stmt c.args.body.now)) _ _ _ _ c.in_ok-head.ensures.at c.in_ok-emit_expression.ensures
     (c.len-skip.ensures ∙ c.emit_expression.new.steps.ok.0) c.in_ok-put.ensures c.in_ok-put_perhaps.ensures c.in_ok-emit_statement.ensures c.in_ok-put-2.ensures c.in_ok-end.ensures.at
 
 pub emit_abort-returns-then-end-exit : goal.emit_abort-returns-then-end-exit

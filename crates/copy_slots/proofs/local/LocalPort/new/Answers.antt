@@ -4,7 +4,7 @@ use lib.ListN.{length-map}
 use Rattle.copy_slots.specs.declared.view.Role.TheVariants.{Keeper}
 use Rattle.copy_slots.specs.SeatEnds.{IsBoard, Watches}
 use Rattle.copy_slots.specs.Fresh.{AllFresh, AllSit}
-use Rattle.copy_slots.specs.Ports.{root_of, local_state}
+use Rattle.copy_slots.specs.Ports.{is_keeper, local_state}
 use Rattle.copy_slots.proofs.Seating.{fresh_sits, fresh_state, rewatches}
 use Rattle.copy_slots.proofs.local.LocalPort.new.Goals as goal
 
@@ -14,7 +14,7 @@ invariant_of-result g c = let t = c.in_ok-board.ensures in let u = c.in_ok-seats
     let h = u.fresh bs n (subst (λ (v : g.row.W.Denot). Watches z v bs (Keeper 0 false []) c.in_ok-board.watch) (sym t.work) t.keeper) in let long : length c.in_ok-seats.seats.items ≡ length c.args.blanks.items = u.count ∙ counted in
     record {
       sized = subst (λ (m : ℕ). (m < 2 ^ 32) × IsBoard z m) (sym long) ((let r = c.requires in omega arith), t.board);
-      root = (rewatches z w bs (Keeper c.len-count.result false []) c.deal_all.new.keeper h.0, ap (λ m. root_of m.0.role) h.0.me);
+      root = (rewatches z w bs (Keeper c.len-count.result false []) c.deal_all.new.keeper h.0, ap (λ m. is_keeper m.0.role) h.0.me);
       both = subst (λ l. AllSit z w l c.in_ok-seats.seats.items) (sym (ap (λ m. m.0.blanks) h.0.me)) (fresh_sits g.W.Work.plain z w c.args.blanks.items c.in_ok-seats.seats.items h.1);
     }
 

@@ -1,6 +1,6 @@
 use Rattle.std.proofs.Common.{map, sym, ap, ◌∙◌, subst}
 use Rattle.copy_slots.specs.Mail.{role_checked}
-use Rattle.copy_slots.specs.Ports.{root_of, stored_of, local_state, stop_word}
+use Rattle.copy_slots.specs.Ports.{is_keeper, stored_of, local_state, stop_word}
 use Rattle.copy_slots.specs.SeatEnds.{Watches}
 use Rattle.copy_slots.specs.Fresh.{AllSit}
 use Rattle.copy_slots.proofs.Seating.{root_checked, keeper_is, checked_state, rewatches}
@@ -9,7 +9,7 @@ use Rattle.copy_slots.proofs.local.LocalPortPort.stopped.Goals as goal
 pub invariant_of-self-2 : goal.invariant_of-self-2
 invariant_of-self-2 g c = let s = c.args.self.now in let bs = s.watch.me.0.blanks in let w = stop_word c.check.result in let e = c.check.ensures.seat bs s.watch.me.0.role s.root.0 in let new = c.check.new.seat in record {
   sized = s.sized;
-  root = (rewatches s.board.shared.table_id s.board.shared.key.work.value bs (role_checked w s.watch.me.0.role) new e, ap (λ m. root_of m.0.role) e.me ∙ root_checked s.board.shared.key.work.value bs (map (λ b. b.seat.me.0.role) s.seats.items) w s.watch.me.0.role s.root.1);
+  root = (rewatches s.board.shared.table_id s.board.shared.key.work.value bs (role_checked w s.watch.me.0.role) new e, ap (λ m. is_keeper m.0.role) e.me ∙ root_checked s.board.shared.key.work.value bs (map (λ b. b.seat.me.0.role) s.seats.items) w s.watch.me.0.role s.root.1);
   both = subst (λ l. AllSit s.board.shared.table_id s.board.shared.key.work.value l s.seats.items) (sym (ap (λ m. m.0.blanks) e.me)) s.both;
 }
 

@@ -9,14 +9,14 @@ use Rattle.core_bells.specs.declared.hints.HintLog.{HintLog}
 use Rattle.crossbeam_queue.specs.Passes.{ruled_capacity}
 use Rattle.thread_code.specs.Plain.{plain_code}
 use Rattle.core_alloc.specs.Places.{Places}
-use Rattle.core_bells.specs.Rooms.{ends_at, ends_of_first, mailbox_ends, rooms_of_first}
-use Rattle.core_bells.specs.Ropes.{AllFit, AreQueues, new_ropes, placed_on, states_of}
+use Rattle.core_bells.specs.Rooms.{mailbox_cores, ends_of_first, mailbox_ends, rooms_of_first}
+use Rattle.core_bells.specs.Ropes.{RopesFit, AreQueues, new_ropes, placed_on, states_of}
 use Rattle.core_bells.proofs.Lists.{length_snoc}
 use Rattle.core_bells.proofs.bells.Bells.new.Goals as goal
 
 ends_count : (s : PlainShape) (places : List ℕ) (n : ℕ) → length (ends_of_first s places n) ≡ n
 ends_count s places zero = refl
-ends_count s places (suc n) = let t = length_snoc (ends_of_first s places n) (ends_at s places n) in let ih = ends_count s places n in omega (arith, t, ih)
+ends_count s places (suc n) = let t = length_snoc (ends_of_first s places n) (mailbox_cores s places n) in let ih = ends_count s places n in omega (arith, t, ih)
 
 pub open_all-requires : goal.open_all-requires
 open_all-requires c =
@@ -40,8 +40,8 @@ returns-clause-whole c =
     let queues = are c.args.code.now c.args.placement.now c.deref-3.result.now c.in_ok-queues.queues.items c.shape.result.now c.deref.result.now c.deref-2.result.now c.cores-cores.result
     same e.count e.rooms (c.deref-2.ensures.value ∙ c.in_ok-ends.ensures) c.shape.ensures.same (c.deref.ensures.value ∙ c.in_ok-places.ensures.same) cores c.in_ok-places.ensures.placed in
     let at : placed_on c.cores-cores.result c.in_ok-places.places.items ≡ c.args.placement.now = λ i. placed_on (cores i) (c.in_ok-places.ensures.same i) in
-    subst (λ (p : Places). AllFit p c.in_ok-queues.queues.items c.in_ok-loose.loose.items) (sym at)
-    (subst (λ q. AllFit c.args.placement.now q c.in_ok-loose.loose.items) same (c.in_ok-loose.ensures.fit c.args.code.now c.args.placement.now queues (omega (arith, cores))))
+    subst (λ (p : Places). RopesFit p c.in_ok-queues.queues.items c.in_ok-loose.loose.items) (sym at)
+    (subst (λ q. RopesFit c.args.placement.now q c.in_ok-loose.loose.items) same (c.in_ok-loose.ensures.fit c.args.code.now c.args.placement.now queues (omega (arith, cores))))
 
 pub returns-clause-ropes : goal.returns-clause-ropes
 returns-clause-ropes c =

@@ -4,7 +4,7 @@ use Rattle.std.proofs.lemmas.Option.{slice_get-get_or}
 use Rattle.core_host.specs.declared.host.Served.TheVariants.{Worked}
 use Rattle.core_seats.specs.Changes.{HasWorked, IsIdle}
 use Rattle.core_host.specs.Hosted.{Hosted, code_of, is_here, IsWhole}
-use Rattle.core_host.specs.Runs.{HasJobs, HasRun}
+use Rattle.core_host.specs.Runs.{HasJobs, HostHasRun}
 use Rattle.core_seats.proofs.RoundLemmas.{rope_same}
 use Rattle.core_host.proofs.HostedLemmas.{whole_keeps, jobs_keep, run_keeps, served_hosted, its_own, each_between, where_own}
 use Rattle.core_host.proofs.host.Host.serve.Goals as goal
@@ -23,7 +23,7 @@ returns-in_default-clause-nothing g c _ k lt on =
     subst (λ (h : Hosted). IsIdle (code_of h).shape h.mail c.serve_round.new.self.mail k) c.self.view_is (c.in_default.ensures.idle refl at.0 k (ap (λ l. slice_get l at.0) c.deref.ensures.value ∙ at.1))
 
 pub returns-in_default-clause-turns : goal.returns-in_default-clause-turns
-returns-in_default-clause-turns g c turns run = run_keeps c.self.inside.scheduler c.serve_round.new.self c.self.inside.cores.items c.self.inside.root c.self.inside.live c.self.inside.round.rope c.self.inside.round.rope c.serve_round.ensures.keeps turns (subst (λ (h : Hosted). HasRun h turns) (sym c.self.view_is) run)
+returns-in_default-clause-turns g c turns run = run_keeps c.self.inside.scheduler c.serve_round.new.self c.self.inside.cores.items c.self.inside.root c.self.inside.live c.self.inside.round.rope c.self.inside.round.rope c.serve_round.ensures.keeps turns (subst (λ (h : Hosted). HostHasRun h turns) (sym c.self.view_is) run)
 
 pub returns-in_default-clause-jobs : goal.returns-in_default-clause-jobs
 returns-in_default-clause-jobs g c jobs old = jobs_keep c.self.inside.scheduler c.serve_round.new.self c.self.inside.cores.items c.self.inside.root c.self.inside.live c.self.inside.round.rope c.self.inside.round.rope c.serve_round.ensures.keeps jobs (subst (λ (h : Hosted). HasJobs h jobs) (sym c.self.view_is) old)
@@ -52,7 +52,7 @@ returns-clause-mine g c k is =
     subst (λ (h : Hosted). (k < length h.mail.ends) × (is_here h (suc k) ≡ true)) c.self.view_is (its_own c.self.inside.scheduler c.self.inside.cores.items c.self.inside.root c.self.inside.live c.self.inside.round.rope c.self.invariant c.self.inside.round.own.items c.self.inside.own_are c.in-Some.i k at)
 
 pub returns-clause-turns : goal.returns-clause-turns
-returns-clause-turns g c turns run = run_keeps c.self.inside.scheduler c.serve_round.new.self c.self.inside.cores.items c.self.inside.root c.self.inside.live c.self.inside.round.rope c.self.inside.round.rope c.serve_round.ensures.keeps turns (subst (λ (h : Hosted). HasRun h turns) (sym c.self.view_is) run)
+returns-clause-turns g c turns run = run_keeps c.self.inside.scheduler c.serve_round.new.self c.self.inside.cores.items c.self.inside.root c.self.inside.live c.self.inside.round.rope c.self.inside.round.rope c.serve_round.ensures.keeps turns (subst (λ (h : Hosted). HostHasRun h turns) (sym c.self.view_is) run)
 
 pub returns-clause-jobs : goal.returns-clause-jobs
 returns-clause-jobs g c jobs old = jobs_keep c.self.inside.scheduler c.serve_round.new.self c.self.inside.cores.items c.self.inside.root c.self.inside.live c.self.inside.round.rope c.self.inside.round.rope c.serve_round.ensures.keeps jobs (subst (λ (h : Hosted). HasJobs h jobs) (sym c.self.view_is) old)

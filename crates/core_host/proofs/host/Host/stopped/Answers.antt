@@ -1,7 +1,7 @@
 use Rattle.std.proofs.Common.{[], ◌∷◌, ◌++◌, refl, sym, ap, ◌∙◌, subst}
 use Rattle.copy_slots.specs.Ports.{stop_word, after_check}
 use Rattle.core_seats.specs.Changes.{Grown}
-use Rattle.core_seats.specs.Keeping.{State}
+use Rattle.core_seats.specs.Keeping.{SchedulerState}
 use Rattle.core_seats.specs.Serving.{KeepsServing}
 use Rattle.core_host.specs.Hosted.{Hosted, hosted}
 use Rattle.core_seats.proofs.Mails.{extends_one}
@@ -15,7 +15,7 @@ invariant_of-self g c = served_hosted c.self.inside.scheduler c.stopped.new.self
 
 pub returns-clause-loaded : goal.returns-clause-loaded
 returns-clause-loaded g c =
-    ap (λ (s : State). hosted s c.self.inside.cores.items c.self.inside.root c.self.inside.live c.self.inside.round.rope) c.stopped.ensures ∙ ap (λ (h : Hosted). record h { mail = after_check c.stopped.result h.mail }) c.self.view_is
+    ap (λ (s : SchedulerState). hosted s c.self.inside.cores.items c.self.inside.root c.self.inside.live c.self.inside.round.rope) c.stopped.ensures ∙ ap (λ (h : Hosted). record h { mail = after_check c.stopped.result h.mail }) c.self.view_is
 
 pub returns-clause-grown : goal.returns-clause-grown
 returns-clause-grown g c = subst (λ (h : Hosted). Grown h.mail c.stopped.new.self.mail) c.self.view_is (subst (KeepsServing c.self.inside.scheduler) (sym c.stopped.ensures) (keeps_watch c.self.inside.scheduler c.self.inside.scheduler.mail.stored (c.self.inside.scheduler.mail.stops ++ stop_word c.stopped.result ∷ []) (extends_one _ _ (stop_word c.stopped.result) refl))).grown

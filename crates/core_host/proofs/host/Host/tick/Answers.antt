@@ -9,7 +9,7 @@ use Rattle.thread_code.specs.Plain.{plain_code}
 use Rattle.combine_tree.specs.Plain.{plain_packet}
 use Rattle.core_machine.specs.Threads.{CanBegin}
 use Rattle.tick_jobs.specs.Jobs.{job_of}
-use Rattle.core_seats.specs.Keeping.{State, code_in}
+use Rattle.core_seats.specs.Keeping.{SchedulerState, code_in}
 use Rattle.core_host.specs.Hosted.{Hosted, hosted, code_of, IsSameHost, is_here}
 use Rattle.core_host.specs.Runs.{ticking}
 use Rattle.tick_jobs.specs.Ticks.{RunsTick}
@@ -31,7 +31,7 @@ write_outcome-outcome-requires-clause-replied g c =
 
 pub invariant_of-self : goal.invariant_of-self
 invariant_of-self g c =
-    let shape : plain_shape c.shape.result.now ≡ (code_in c.self.inside.scheduler).shape = ap plain_shape c.shape.ensures.same ∙ ap (λ (s : State). (code_in s).shape) c.scheduler.view_is in
+    let shape : plain_shape c.shape.result.now ≡ (code_in c.self.inside.scheduler).shape = ap plain_shape c.shape.ensures.same ∙ ap (λ (s : SchedulerState). (code_in s).shape) c.scheduler.view_is in
     let live : c.match-matches.live ≡ goes_on c.write_outcome-outcome.result = search rules in
     now_hosted c.self.inside.scheduler c.work_beside.new.self c.self.inside.cores.items c.self.inside.root c.work_beside.new.packet c.write_job.new.packet c.self.inside.live c.match-matches.live c.self.inside.round.rope c.work_beside.new.round.rope c.self.invariant (ap (λ (h : Hosted). h.live) c.self.view_is ∙ c.requires.can.live)
     c.args.row.now c.args.budget (subst (λ s. IsJob (plain_packet c.write_job.new.packet) (job_of s c.self.inside.root c.args.row.now c.args.budget)) shape c.write_job.ensures.job)
@@ -52,10 +52,10 @@ work_beside-requires-clause-packets g c = c.self.invariant.packets (subst (λ (h
 
 pub returns-clause-runs : goal.returns-clause-runs
 returns-clause-runs g c =
-    let shape : plain_shape c.shape.result.now ≡ (code_in c.self.inside.scheduler).shape = ap plain_shape c.shape.ensures.same ∙ ap (λ (s : State). (code_in s).shape) c.scheduler.view_is in
+    let shape : plain_shape c.shape.result.now ≡ (code_in c.self.inside.scheduler).shape = ap plain_shape c.shape.ensures.same ∙ ap (λ (s : SchedulerState). (code_in s).shape) c.scheduler.view_is in
     let live : c.match-matches.live ≡ goes_on c.write_outcome-outcome.result = search rules in
     let copies = c.work_beside.new.packet.copies.items in
-    let shape2 = ap plain_shape c.shape-2.ensures.same ∙ ap (λ (s : State). (code_in s).shape) c.scheduler.view_is in
+    let shape2 = ap plain_shape c.shape-2.ensures.same ∙ ap (λ (s : SchedulerState). (code_in s).shape) c.scheduler.view_is in
     subst (λ (h : Hosted). RunsTick (ticking h) (ticking (hosted c.work_beside.new.self c.self.inside.cores.items c.work_beside.new.packet c.match-matches.live c.work_beside.new.round.rope)) c.args.row.now c.args.budget c.write_outcome-outcome.result c.args.outputs.now c.write_outcome-outcome.new.outputs) c.self.view_is
     (ran c.self.inside.scheduler c.work_beside.new.self c.self.inside.cores.items c.self.inside.root c.work_beside.new.packet c.write_job.new.packet c.self.inside.live c.match-matches.live c.self.inside.round.rope c.work_beside.new.round.rope c.self.invariant (ap (λ (h : Hosted). h.live) c.self.view_is ∙ c.requires.can.live)
     c.args.row.now c.args.budget (subst (λ s. IsJob (plain_packet c.write_job.new.packet) (job_of s c.self.inside.root c.args.row.now c.args.budget)) shape c.write_job.ensures.job)
@@ -69,12 +69,12 @@ returns-clause-same g c =
 
 pub write_job-requires-clause-row : goal.write_job-requires-clause-row
 write_job-requires-clause-row g c =
-    let shape = ap plain_shape c.shape.ensures.same ∙ ap (λ (s : State). (code_in s).shape) c.scheduler.view_is in
+    let shape = ap plain_shape c.shape.ensures.same ∙ ap (λ (s : SchedulerState). (code_in s).shape) c.scheduler.view_is in
     c.requires.can.inputs ∙ ap (λ (h : Hosted). length (code_of h).shape.inputs) (sym c.self.view_is) ∙ ap (λ (s : PlainShape). length s.inputs) (sym shape)
 
 pub write_outcome-outcome-requires-clause-outputs : goal.write_outcome-outcome-requires-clause-outputs
 write_outcome-outcome-requires-clause-outputs g c =
-    let shape2 = ap plain_shape c.shape-2.ensures.same ∙ ap (λ (s : State). (code_in s).shape) c.scheduler.view_is in
+    let shape2 = ap plain_shape c.shape-2.ensures.same ∙ ap (λ (s : SchedulerState). (code_in s).shape) c.scheduler.view_is in
     c.requires.can.outputs ∙ ap (λ (h : Hosted). length (code_of h).shape.outputs) (sym c.self.view_is) ∙ ap (λ (s : PlainShape). length s.outputs) (sym shape2)
 
 pub work_beside-requires-clause-small : goal.work_beside-requires-clause-small

@@ -1,6 +1,6 @@
 use Rattle.std.proofs.Common.{◌∙◌, sym, ap, subst, arith, Some, ◌+◌}
 use Rattle.thread_code.specs.Plain.{PlainBlock, plain_code}
-use Rattle.thread_state.specs.Frames.{entered}
+use Rattle.thread_state.specs.Frames.{called_frames}
 use Rattle.thread_state.specs.declared.stack.Resume.{Resume}
 use Rattle.core_machine.specs.RunParts.{Calls}
 use Rattle.core_machine.proofs.CallRuns.{known, call_args, call_words, call_next, call_frames, call_room, call_goes}
@@ -43,7 +43,7 @@ pub returns : goal.returns
 returns c =
     let h = c.args.self.now in
     let resume : Resume = record { at = h.at + 1; block = h.function } in
-    let e = c.enter.ensures ∙ ap (λ (b : PlainBlock). entered b.params b.words b.counters resume h.stack) c.block_at-block.ensures in
+    let e = c.enter.ensures ∙ ap (λ (b : PlainBlock). called_frames b.params b.words b.counters resume h.stack) c.block_at-block.ensures in
     subst
     (λ s. Calls (plain_code c.args.code.now) h (record { number = h.number; phase = h.phase; function = Some c.args.function; at = 0; stack = s; own = h.own; units = h.units + 1; allowance = h.allowance; branches = h.branches; joining = h.joining })) (sym e)
     (call_goes c.requires.running.0 (plain_code c.args.code.now) c.requires.valid h c.requires.loaded c.requires.running.1 c.args.function c.requires.before)

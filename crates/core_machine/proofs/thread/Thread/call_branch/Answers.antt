@@ -1,7 +1,7 @@
 use Rattle.std.proofs.Common.{◌∙◌, ◌-◌, Some, cond, refl, sym, ap, subst}
 use Rattle.thread_code.specs.Plain.{plain_code}
 use Rattle.thread_code.specs.declared.instruction.Instruction.TheVariants as instruction
-use Rattle.core_machine.specs.Threads.{Runs_in}
+use Rattle.core_machine.specs.Threads.{RunsInPhase}
 use Rattle.core_machine.specs.RunParts.{Begun, started_by, woken_by}
 use Rattle.core_machine.specs.Direct.{IsNewFork, IsHeldFork, start_packet, wake_packet}
 use Rattle.core_machine.proofs.Direct.{start_is, wake_is, paused_there}
@@ -38,7 +38,7 @@ returns-then-fork_here c =
     let asleep = paused_there code h c.requires.loaded c.requires.fork k c.requires.index held b c.requires.job in
     record {
       loaded = g.loaded;
-      running = subst (Runs_in b') (sym g.running) refl;
+      running = subst (RunsInPhase b') (sym g.running) refl;
       number = g.number;
       stands = λ w xs e st. wake_stands code c.parts-parts.ensures.valid b c.requires.branch c.requires.resting p b' g asleep refl xs w.job (wake_is code h c.requires.loaded c.requires.fork k c.requires.index held w e) st;
     }
@@ -58,7 +58,7 @@ returns-else-fork_here c =
     let g = subst (λ k. Begun (plain_code k) b b' (started_by (plain_code k) b (start_packet (plain_code k) h c.args.k)) (h.allowance - h.units)) same c.start_branch.ensures in
     record {
       loaded = g.loaded;
-      running = subst (Runs_in b') (sym g.running) refl;
+      running = subst (RunsInPhase b') (sym g.running) refl;
       number = g.number;
       stands = λ w xs e st. start_stands code c.parts-parts.ensures.valid b c.requires.branch c.requires.resting p b' g refl xs w.job (start_is code h c.requires.loaded c.requires.fork k c.requires.index fresh w e) st;
     }

@@ -4,7 +4,7 @@ use Rattle.core_machine.specs.declared.thread.Thread.{Thread}
 use Rattle.core_machine.specs.declared.thread.Phase.TheVariants as phase
 use Rattle.core_machine.specs.declared.thread.Event.TheVariants as event
 use Rattle.core_machine.specs.Branches.{Gathered}
-use Rattle.core_machine.specs.RunParts.{over, comes, Comes_to}
+use Rattle.core_machine.specs.RunParts.{over, comes, ComesToEvent}
 use Rattle.core_machine.proofs.Outer.{fork_here, fork_moved, fork_view}
 use Rattle.core_machine.proofs.thread.Thread.fork.Goals as goal
 
@@ -16,7 +16,7 @@ returns-then-units-self c =
     let code = plain_code c.args.code.now in
     let h = c.args.self.now in
     let make : Gathered → Thread = λ b. record { number = h.number; phase = phase.Forked h.units; function = h.function; at = h.at; stack = h.stack; own = h.own; units = c.args.units; allowance = h.allowance; branches = b; joining = h.joining } in
-    subst (λ b. Comes_to code h (make b) event.Over) (sym c.gather.ensures)
+    subst (λ b. ComesToEvent code h (make b) event.Over) (sym c.gather.ensures)
     (record {
       moved = fork_moved code h c.requires.loaded c.requires.running c.args.units c.requires.before c.requires.valid c.fork_at-fork.result c.fork_at-fork.ensures;
       shown = over c.if-units-self.true;
@@ -29,7 +29,7 @@ returns-else-units-self c =
     let code = plain_code c.args.code.now in
     let h = c.args.self.now in
     let make : Gathered → Thread = λ b. record { number = h.number; phase = phase.Forked h.units; function = h.function; at = h.at; stack = h.stack; own = h.own; units = c.args.units; allowance = h.allowance; branches = b; joining = h.joining } in
-    subst (λ b. Comes_to code h (make b) event.Fork) (sym c.gather.ensures)
+    subst (λ b. ComesToEvent code h (make b) event.Fork) (sym c.gather.ensures)
     (record {
       moved = fork_moved code h c.requires.loaded c.requires.running c.args.units c.requires.before c.requires.valid c.fork_at-fork.result c.fork_at-fork.ensures;
       shown = comes event.Fork c.if-units-self.false (fork_view code h c.requires.loaded c.requires.running c.args.units c.requires.before c.requires.valid c.fork_at-fork.result c.fork_at-fork.ensures);

@@ -3,7 +3,7 @@ use Rattle.std.specs.Vec.{with_items}
 use Rattle.std.proofs.lemmas.List.{length-map, with_items_is}
 use Rattle.combine_tree.specs.Plain.{plain_packet}
 use Rattle.thread_code.specs.Plain.{plain_code}
-use Rattle.thread_code.specs.Machine.{uses_of}
+use Rattle.thread_code.specs.Machine.{code_uses}
 use Rattle.thread_state.specs.Kept.{HavePlaces, handed_by, place_in, no_copy}
 use Rattle.thread_state.specs.Pars.{used_by}
 use Rattle.thread_state.proofs.Links.{used_is, used_count}
@@ -23,15 +23,15 @@ hand_down-requires-clause-places c =
     let h = c.args.self.now in
     let code = plain_code c.args.code.now in
     let b = is_branch code h c.requires.loaded c.requires.fork c.args.k c.requires.branch in
-    let used : used_by h.own.pars c.at-branch.result ≡ uses_of code (branch_at h c.args.k) =
+    let used : used_by h.own.pars c.at-branch.result ≡ code_uses code (branch_at h c.args.k) =
     ap (used_by h.own.pars) c.at-branch.ensures ∙ used_is code.shape h.own.pars c.requires.loaded.serves.pars (branch_at h c.args.k) in
-    subst (HavePlaces h.own) (sym used) (have_places code h.number h.own c.requires.loaded.serves (uses_of code (branch_at h c.args.k)) b.uses)
+    subst (HavePlaces h.own) (sym used) (have_places code h.number h.own c.requires.loaded.serves (code_uses code (branch_at h c.args.k)) b.uses)
 
 pub hand_down-requires-clause-room : goal.hand_down-requires-clause-room
 hand_down-requires-clause-room c =
     let h = c.args.self.now in
     let code = plain_code c.args.code.now in
-    let used : used_by h.own.pars c.at-branch.result ≡ uses_of code (branch_at h c.args.k) =
+    let used : used_by h.own.pars c.at-branch.result ≡ code_uses code (branch_at h c.args.k) =
     ap (used_by h.own.pars) c.at-branch.ensures ∙ used_is code.shape h.own.pars c.requires.loaded.serves.pars (branch_at h c.args.k) in
     ap length c.deref_mut.ensures.value ∙ ap (λ (v : _). length v.items) c.write_kind.ensures.copies ∙ c.requires.room.copies ∙ sym (ap length used)
 
@@ -39,7 +39,7 @@ pub returns-clause-job : goal.returns-clause-job
 returns-clause-job c = λ w e.
     let h = c.args.self.now in
     let code = plain_code c.args.code.now in
-    let used : used_by h.own.pars c.at-branch.result ≡ uses_of code (branch_at h c.args.k) =
+    let used : used_by h.own.pars c.at-branch.result ≡ code_uses code (branch_at h c.args.k) =
     ap (used_by h.own.pars) c.at-branch.ensures ∙ used_is code.shape h.own.pars c.requires.loaded.serves.pars (branch_at h c.args.k) in
     let kinds = subst (λ k. HasKind (plain_code k) h c.args.k c.args.packet.now c.write_kind.new.packet) c.parts-code.ensures.same c.write_kind.ensures in
     let p = c.write_kind.new.packet in

@@ -1,6 +1,6 @@
 use Rattle.std.proofs.Common.{subst}
 use Rattle.thread_code.specs.Plain.{plain_code}
-use Rattle.core_machine.specs.Threads.{Left_by}
+use Rattle.core_machine.specs.Threads.{LeftByEvent}
 use Rattle.core_machine.proofs.Jobs.{tells_exactly, run_stands, run_left, can_run, over_exactly, trap_exactly}
 use Rattle.core_machine.proofs.Asking.{asks, branches_are}
 use Rattle.core_machine.proofs.thread.Thread.run.Goals as goal
@@ -26,6 +26,6 @@ returns-in_default c =
       stands = run_stands code h h' c.run_on.result k running;
       exactly = tells_exactly code h h' c.run_on.result k running;
       left = left;
-      asks = λ e. asks code h' k.moved.loaded (subst (Left_by h') e left);
-      branches = λ e. branches_are code h' k.moved.loaded (subst (Left_by h') e left);
+      asks = λ e. asks code h' k.moved.loaded (subst (LeftByEvent h') e left);
+      branches = λ e. branches_are code h' k.moved.loaded (subst (LeftByEvent h') e left);
     }

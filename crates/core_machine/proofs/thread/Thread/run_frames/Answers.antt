@@ -4,7 +4,7 @@ use Rattle.thread_code.specs.Fused.{AreFused}
 use Rattle.thread_steps.specs.BlockRun.{block_for}
 use Rattle.thread_steps.proofs.Nearing.{fused_block}
 use Rattle.thread_steps.specs.declared.block_run.Stop.TheVariants as stop
-use Rattle.core_machine.specs.RunParts.{RunsBlock, Calls, Returns, Comes_to, over, CanStop}
+use Rattle.core_machine.specs.RunParts.{RunsBlock, Calls, Returns, ComesToEvent, over, CanStop}
 use Rattle.core_machine.proofs.Moving.{moved_then, comes_then}
 use Rattle.core_machine.proofs.thread.Thread.run_frames.Goals as goal
 
@@ -38,7 +38,7 @@ returns-in-Pauses c =
     let h = c.run_frame.new.self in
     let ran = subst (λ p. RunsBlock (plain_code p) c.loop-function.self h c.run_frame.result) c.parts-parts.ensures.same c.run_frame.ensures in
     let m = moved_then code c.args.self.now c.loop-function.self h c.loop-function.invariant.moved ran.moved in
-    comes_then code c.args.self.now h c.pause.new.self m c.pause.result (subst (λ p. Comes_to (plain_code p) h c.pause.new.self c.pause.result) c.parts-parts.ensures.same c.pause.ensures)
+    comes_then code c.args.self.now h c.pause.new.self m c.pause.result (subst (λ p. ComesToEvent (plain_code p) h c.pause.new.self c.pause.result) c.parts-parts.ensures.same c.pause.ensures)
 
 pub returns-in-Ends : goal.returns-in-Ends
 returns-in-Ends c =
@@ -46,7 +46,7 @@ returns-in-Ends c =
     let h = c.run_frame.new.self in
     let ran = subst (λ p. RunsBlock (plain_code p) c.loop-function.self h c.run_frame.result) c.parts-parts.ensures.same c.run_frame.ensures in
     let m = moved_then code c.args.self.now c.loop-function.self h c.loop-function.invariant.moved ran.moved in
-    comes_then code c.args.self.now h c.end.new.self m c.end.result (subst (λ p. Comes_to (plain_code p) h c.end.new.self c.end.result) c.parts-parts.ensures.same c.end.ensures)
+    comes_then code c.args.self.now h c.end.new.self m c.end.result (subst (λ p. ComesToEvent (plain_code p) h c.end.new.self c.end.result) c.parts-parts.ensures.same c.end.ensures)
 
 pub returns-in-Forks : goal.returns-in-Forks
 returns-in-Forks c =
@@ -54,7 +54,7 @@ returns-in-Forks c =
     let h = c.run_frame.new.self in
     let ran = subst (λ p. RunsBlock (plain_code p) c.loop-function.self h c.run_frame.result) c.parts-parts.ensures.same c.run_frame.ensures in
     let m = moved_then code c.args.self.now c.loop-function.self h c.loop-function.invariant.moved ran.moved in
-    comes_then code c.args.self.now h c.fork.new.self m c.fork.result (subst (λ p. Comes_to (plain_code p) h c.fork.new.self c.fork.result) c.parts-parts.ensures.same c.fork.ensures)
+    comes_then code c.args.self.now h c.fork.new.self m c.fork.result (subst (λ p. ComesToEvent (plain_code p) h c.fork.new.self c.fork.result) c.parts-parts.ensures.same c.fork.ensures)
 
 pub returns-in-Traps : goal.returns-in-Traps
 returns-in-Traps c =
@@ -62,7 +62,7 @@ returns-in-Traps c =
     let h = c.run_frame.new.self in
     let ran = subst (λ p. RunsBlock (plain_code p) c.loop-function.self h c.run_frame.result) c.parts-parts.ensures.same c.run_frame.ensures in
     let m = moved_then code c.args.self.now c.loop-function.self h c.loop-function.invariant.moved ran.moved in
-    comes_then code c.args.self.now h c.trap.new.self m c.trap.result (subst (λ p. Comes_to (plain_code p) h c.trap.new.self c.trap.result) c.parts-parts.ensures.same c.trap.ensures)
+    comes_then code c.args.self.now h c.trap.new.self m c.trap.result (subst (λ p. ComesToEvent (plain_code p) h c.trap.new.self c.trap.result) c.parts-parts.ensures.same c.trap.ensures)
 
 pub returns-in-Over : goal.returns-in-Over
 returns-in-Over c =

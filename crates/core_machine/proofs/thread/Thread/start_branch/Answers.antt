@@ -2,10 +2,10 @@ use Rattle.std.proofs.Common.{false, ◌≡◌, ◌∙◌, ◌-◌, sym, ap, sub
 use Rattle.forec_kernel.specs.Texts.{params_in}
 use Rattle.thread_code.specs.Plain.{PlainBlock, plain_code}
 use Rattle.thread_code.specs.Valid.{arguments_of}
-use Rattle.thread_code.specs.Machine.{uses_of}
+use Rattle.thread_code.specs.Machine.{code_uses}
 use Rattle.thread_code.specs.Alone.{block_of}
-use Rattle.thread_state.specs.Frames.{Frames, started, args_from}
-use Rattle.thread_state.specs.Kept.{Kept, HavePlaces, handed_by, begun}
+use Rattle.thread_state.specs.Frames.{Frames, started_frames, args_from}
+use Rattle.thread_state.specs.Kept.{PlainOwn, HavePlaces, handed_by, begun_own}
 use Rattle.thread_state.specs.Pars.{Links, used_by, arguments_from}
 use Rattle.thread_state.proofs.Links.{used_is, fork_arguments}
 use Rattle.core_machine.specs.declared.thread.Thread.{Thread}
@@ -78,17 +78,17 @@ restart_from-requires-2-clause-places c =
     let h = c.args.self.now in
     let code = plain_code c.args.code.now in
     let b = is_branch code h c.requires.loaded c.requires.fork c.args.k c.requires.index in
-    let used : used_by h.own.pars c.at-number.result ≡ uses_of code (branch_at h c.args.k) =
+    let used : used_by h.own.pars c.at-number.result ≡ code_uses code (branch_at h c.args.k) =
     ap (used_by h.own.pars) c.at-number.ensures ∙ used_is code.shape h.own.pars c.requires.loaded.serves.pars (branch_at h c.args.k) in
-    subst (HavePlaces h.own) (sym used) (have_places code h.number h.own c.requires.loaded.serves (uses_of code (branch_at h c.args.k)) b.uses)
+    subst (HavePlaces h.own) (sym used) (have_places code h.number h.own c.requires.loaded.serves (code_uses code (branch_at h c.args.k)) b.uses)
 
 pub restart_from-requires-2-clause-room : goal.restart_from-requires-2-clause-room
 restart_from-requires-2-clause-room c =
     let h = c.args.self.now in
     let code = plain_code c.args.code.now in
-    let used : used_by h.own.pars c.at-number.result ≡ uses_of code (branch_at h c.args.k) =
+    let used : used_by h.own.pars c.at-number.result ≡ code_uses code (branch_at h c.args.k) =
     ap (used_by h.own.pars) c.at-number.ensures ∙ used_is code.shape h.own.pars c.requires.loaded.serves.pars (branch_at h c.args.k) in
-    c.requires.branch.serves.copies ∙ ap (λ t. length (uses_of code t)) c.requires.number ∙ sym (ap length used)
+    c.requires.branch.serves.copies ∙ ap (λ t. length (code_uses code t)) c.requires.number ∙ sym (ap length used)
 
 pub returns : goal.returns
 returns c =
@@ -110,14 +110,14 @@ returns c =
     let params : blk.params ≡ params_in s.threads (branch_at h k) = is.same ∙ ap (params_in s.threads) c.requires.number in
     let args : args_from c.arguments_from-count.result 0 blk.params stack ≡ p.args =
     ap (λ m. args_from m 0 blk.params stack) count ∙ ap (λ n. args_from (arguments_of s (drop k bs)) 0 n stack) params ∙ sym (args_behind s bs k (params_in s.threads (branch_at h k)) stack) in
-    let used : used_by h.own.pars c.at-number.result ≡ uses_of code (branch_at h k) =
+    let used : used_by h.own.pars c.at-number.result ≡ code_uses code (branch_at h k) =
     ap (used_by h.own.pars) c.at-number.ensures ∙ used_is s h.own.pars c.requires.loaded.serves.pars (branch_at h k) in
-    let make : Frames → Kept → Thread = λ f k. record { number = b.number; phase = phase.Running false; function = None; at = 0; stack = f; own = k; units = 0; allowance = h.allowance - h.units; branches = b.branches; joining = b.joining } in
-    let fr : c.restart_from.new.self ≡ started p.args blk.words blk.counters b.stack.room b.stack.most =
-    c.restart_from.ensures ∙ ap (λ (b' : PlainBlock). started (args_from c.arguments_from-count.result 0 b'.params stack) b'.words b'.counters b.stack.room b.stack.most) c.block_at-block.ensures
-    ∙ ap (λ xs. started xs blk.words blk.counters b.stack.room b.stack.most) args in
-    let kept : c.restart_from-2.new.self ≡ begun p.copies b.own = c.restart_from-2.ensures ∙ ap (λ vs. begun (handed_by h.own vs) b.own) used in
+    let make : Frames → PlainOwn → Thread = λ f k. record { number = b.number; phase = phase.Running false; function = None; at = 0; stack = f; own = k; units = 0; allowance = h.allowance - h.units; branches = b.branches; joining = b.joining } in
+    let fr : c.restart_from.new.self ≡ started_frames p.args blk.words blk.counters b.stack.room b.stack.most =
+    c.restart_from.ensures ∙ ap (λ (b' : PlainBlock). started_frames (args_from c.arguments_from-count.result 0 b'.params stack) b'.words b'.counters b.stack.room b.stack.most) c.block_at-block.ensures
+    ∙ ap (λ xs. started_frames xs blk.words blk.counters b.stack.room b.stack.most) args in
+    let kept : c.restart_from-2.new.self ≡ begun_own p.copies b.own = c.restart_from-2.ensures ∙ ap (λ vs. begun_own (handed_by h.own vs) b.own) used in
     let small = c.requires.loaded.small in
     subst (λ f. Begun code b (make f c.restart_from-2.new.self) (started_by code b p) (h.allowance - h.units)) (sym fr)
-    (subst (λ k. Begun code b (make (started p.args blk.words blk.counters b.stack.room b.stack.most) k) (started_by code b p) (h.allowance - h.units)) (sym kept)
+    (subst (λ k. Begun code b (make (started_frames p.args blk.words blk.counters b.stack.room b.stack.most) k) (started_by code b p) (h.allowance - h.units)) (sym kept)
     (start_begun code c.requires.valid b c.requires.branch p room (omega (arith, small))))

@@ -4,13 +4,13 @@ use Rattle.std.proofs.Math.Facts.{Fits-of_lt}
 use Rattle.thread_code.specs.declared.instruction.CodeParts.{CodeParts}
 use Rattle.thread_code.specs.Plain.{plain_code}
 use Rattle.thread_code.specs.Alone.{block_of}
-use Rattle.core_machine.specs.Threads.{Loaded, StandsFor, Left_by, CanBegin}
+use Rattle.core_machine.specs.Threads.{Loaded, StandsFor, LeftByEvent, CanBegin}
 use Rattle.forec_kernel.specs.Packed.{HasRoom, IsJob}
 use Rattle.thread_code.specs.Valid.{of_shape}
 use Rattle.combine_tree.specs.declared.packet.Packet.{Packet}
 use Rattle.combine_tree.specs.Plain.{plain_packet}
 use Rattle.core_machine.specs.Forks.{jobs_at}
-use Rattle.core_seats.specs.Keeping.{State, code_in, QuietAbove, Leaves, HaveHeard}
+use Rattle.core_seats.specs.Keeping.{SchedulerState, code_in, QuietAbove, KeepsBelow, HaveHeard}
 use Rattle.core_seats.proofs.KeepingLemmas.{leaves_same, leaves_then, fitted_keeps}
 use Rattle.tick_jobs.proofs.Lists.{past_end}
 use Rattle.core_seats.proofs.ChildrenRunLemmas.{consulted_none, some_number, fitted_b, above_m, inside_m, can_send, some_packet, is_called, sent_above, consulted_more, have_heard}
@@ -169,10 +169,10 @@ finish-loop-self-init g t c =
 
 pub finish-run_children-requires : goal.finish-run_children-requires
 finish-run_children-requires g t c κs within =
-    let code : c.self.inside.code.now ≡ c.loop-self.self.code = ap (λ (s : State). s.code) c.self.view_is in
+    let code : c.self.inside.code.now ≡ c.loop-self.self.code = ap (λ (s : SchedulerState). s.code) c.self.view_is in
     let fork = at_fork c.args.self.now c.loop-self.self c.requires.fitted c.args.thread.now c.loop-self.thread c.run.new.self c.loop-self.invariant.number c.loop-self.invariant.leaves (subst (λ (x : CodeParts). Loaded (plain_code x) c.run.new.self) code c.run.ensures.loaded) c.run.ensures.number
     (λ xs st. subst (λ (x : CodeParts). StandsFor (plain_code x) c.run.new.self xs) code (c.run.ensures.stands xs (subst (λ (x : CodeParts). StandsFor (plain_code x) c.loop-self.thread xs) (sym code) st)))
-    (subst (λ e. Left_by c.run.new.self e) c.in-Fork.is c.run.ensures.left) (subst (λ (x : CodeParts). c.run.new.self.branches.numbers ≡ map (λ w. w.branch) (jobs_at (plain_code x) c.run.new.self)) code (c.run.ensures.branches c.in-Fork.is)) c.loop-self.invariant.jobs c.loop-self.invariant.job c.loop-self.forks (c.loop-self.invariant.in_job, c.loop-self.invariant.count) in
+    (subst (λ e. LeftByEvent c.run.new.self e) c.in-Fork.is c.run.ensures.left) (subst (λ (x : CodeParts). c.run.new.self.branches.numbers ≡ map (λ w. w.branch) (jobs_at (plain_code x) c.run.new.self)) code (c.run.ensures.branches c.in-Fork.is)) c.loop-self.invariant.jobs c.loop-self.invariant.job c.loop-self.forks (c.loop-self.invariant.in_job, c.loop-self.invariant.count) in
     let above = subst (QuietAbove c.loop-self.self) (sym (c.run.ensures.number ∙ c.loop-self.invariant.number)) c.loop-self.invariant.above in
     let fitted = fitted_keeps c.args.thread.now.number c.args.thread.now.number c.args.self.now c.loop-self.self c.loop-self.invariant.leaves c.requires.fitted in
     let number = c.run.ensures.number ∙ c.loop-self.invariant.number in
@@ -181,52 +181,52 @@ finish-run_children-requires g t c κs within =
 
 pub finish-settle-requires-clause-few : goal.finish-settle-requires-clause-few
 finish-settle-requires-clause-few g t c =
-    let code : c.self.inside.code.now ≡ c.loop-self.self.code = ap (λ (s : State). s.code) c.self.view_is in
+    let code : c.self.inside.code.now ≡ c.loop-self.self.code = ap (λ (s : SchedulerState). s.code) c.self.view_is in
     (at_fork c.args.self.now c.loop-self.self c.requires.fitted c.args.thread.now c.loop-self.thread c.run.new.self c.loop-self.invariant.number c.loop-self.invariant.leaves (subst (λ (x : CodeParts). Loaded (plain_code x) c.run.new.self) code c.run.ensures.loaded) c.run.ensures.number
     (λ xs st. subst (λ (x : CodeParts). StandsFor (plain_code x) c.run.new.self xs) code (c.run.ensures.stands xs (subst (λ (x : CodeParts). StandsFor (plain_code x) c.loop-self.thread xs) (sym code) st)))
-    (subst (λ e. Left_by c.run.new.self e) c.in-Fork.is c.run.ensures.left) (subst (λ (x : CodeParts). c.run.new.self.branches.numbers ≡ map (λ w. w.branch) (jobs_at (plain_code x) c.run.new.self)) code (c.run.ensures.branches c.in-Fork.is)) c.loop-self.invariant.jobs c.loop-self.invariant.job c.loop-self.forks (c.loop-self.invariant.in_job, c.loop-self.invariant.count)).few
+    (subst (λ e. LeftByEvent c.run.new.self e) c.in-Fork.is c.run.ensures.left) (subst (λ (x : CodeParts). c.run.new.self.branches.numbers ≡ map (λ w. w.branch) (jobs_at (plain_code x) c.run.new.self)) code (c.run.ensures.branches c.in-Fork.is)) c.loop-self.invariant.jobs c.loop-self.invariant.job c.loop-self.forks (c.loop-self.invariant.in_job, c.loop-self.invariant.count)).few
 
 pub finish-join-requires-clause-some : goal.finish-join-requires-clause-some
 finish-join-requires-clause-some g t c =
-    let code : c.self.inside.code.now ≡ c.loop-self.self.code = ap (λ (s : State). s.code) c.self.view_is in
+    let code : c.self.inside.code.now ≡ c.loop-self.self.code = ap (λ (s : SchedulerState). s.code) c.self.view_is in
     subst (λ l. 0 < length l) (sym c.settle.ensures.branches)
     (some_at c.args.self.now c.loop-self.self c.requires.fitted c.args.thread.now c.loop-self.thread c.run.new.self c.loop-self.invariant.number c.loop-self.invariant.leaves (subst (λ (x : CodeParts). Loaded (plain_code x) c.run.new.self) code c.run.ensures.loaded) c.run.ensures.number
     (λ xs st. subst (λ (x : CodeParts). StandsFor (plain_code x) c.run.new.self xs) code (c.run.ensures.stands xs (subst (λ (x : CodeParts). StandsFor (plain_code x) c.loop-self.thread xs) (sym code) st)))
-    (subst (λ e. Left_by c.run.new.self e) c.in-Fork.is c.run.ensures.left) (subst (λ (x : CodeParts). c.run.new.self.branches.numbers ≡ map (λ w. w.branch) (jobs_at (plain_code x) c.run.new.self)) code (c.run.ensures.branches c.in-Fork.is)) c.loop-self.invariant.jobs c.loop-self.invariant.job c.loop-self.forks (c.loop-self.invariant.in_job, c.loop-self.invariant.count))
+    (subst (λ e. LeftByEvent c.run.new.self e) c.in-Fork.is c.run.ensures.left) (subst (λ (x : CodeParts). c.run.new.self.branches.numbers ≡ map (λ w. w.branch) (jobs_at (plain_code x) c.run.new.self)) code (c.run.ensures.branches c.in-Fork.is)) c.loop-self.invariant.jobs c.loop-self.invariant.job c.loop-self.forks (c.loop-self.invariant.in_job, c.loop-self.invariant.count))
 
 pub finish-join-requires-clause-few : goal.finish-join-requires-clause-few
 finish-join-requires-clause-few g t c =
-    let code : c.self.inside.code.now ≡ c.loop-self.self.code = ap (λ (s : State). s.code) c.self.view_is in
+    let code : c.self.inside.code.now ≡ c.loop-self.self.code = ap (λ (s : SchedulerState). s.code) c.self.view_is in
     subst (λ l. length l ≤ 256) (sym c.settle.ensures.branches)
     (at_fork c.args.self.now c.loop-self.self c.requires.fitted c.args.thread.now c.loop-self.thread c.run.new.self c.loop-self.invariant.number c.loop-self.invariant.leaves (subst (λ (x : CodeParts). Loaded (plain_code x) c.run.new.self) code c.run.ensures.loaded) c.run.ensures.number
     (λ xs st. subst (λ (x : CodeParts). StandsFor (plain_code x) c.run.new.self xs) code (c.run.ensures.stands xs (subst (λ (x : CodeParts). StandsFor (plain_code x) c.loop-self.thread xs) (sym code) st)))
-    (subst (λ e. Left_by c.run.new.self e) c.in-Fork.is c.run.ensures.left) (subst (λ (x : CodeParts). c.run.new.self.branches.numbers ≡ map (λ w. w.branch) (jobs_at (plain_code x) c.run.new.self)) code (c.run.ensures.branches c.in-Fork.is)) c.loop-self.invariant.jobs c.loop-self.invariant.job c.loop-self.forks (c.loop-self.invariant.in_job, c.loop-self.invariant.count)).few
+    (subst (λ e. LeftByEvent c.run.new.self e) c.in-Fork.is c.run.ensures.left) (subst (λ (x : CodeParts). c.run.new.self.branches.numbers ≡ map (λ w. w.branch) (jobs_at (plain_code x) c.run.new.self)) code (c.run.ensures.branches c.in-Fork.is)) c.loop-self.invariant.jobs c.loop-self.invariant.job c.loop-self.forks (c.loop-self.invariant.in_job, c.loop-self.invariant.count)).few
 
 pub finish-overflow_add-forks : goal.finish-overflow_add-forks
 finish-overflow_add-forks g t c =
-    let code : c.self.inside.code.now ≡ c.loop-self.self.code = ap (λ (s : State). s.code) c.self.view_is in
+    let code : c.self.inside.code.now ≡ c.loop-self.self.code = ap (λ (s : SchedulerState). s.code) c.self.view_is in
     let b = bound c.args.self.now c.loop-self.self c.requires.fitted c.args.thread.now c.loop-self.thread c.run.new.self c.loop-self.invariant.number c.loop-self.invariant.leaves (subst (λ (x : CodeParts). Loaded (plain_code x) c.run.new.self) code c.run.ensures.loaded) c.run.ensures.number
     (λ xs st. subst (λ (x : CodeParts). StandsFor (plain_code x) c.run.new.self xs) code (c.run.ensures.stands xs (subst (λ (x : CodeParts). StandsFor (plain_code x) c.loop-self.thread xs) (sym code) st)))
-    (subst (λ e. Left_by c.run.new.self e) c.in-Fork.is c.run.ensures.left) (subst (λ (x : CodeParts). c.run.new.self.branches.numbers ≡ map (λ w. w.branch) (jobs_at (plain_code x) c.run.new.self)) code (c.run.ensures.branches c.in-Fork.is)) c.loop-self.invariant.jobs c.loop-self.invariant.job c.loop-self.forks (c.loop-self.invariant.in_job, c.loop-self.invariant.count) c.loop-self.invariant.allowance in
+    (subst (λ e. LeftByEvent c.run.new.self e) c.in-Fork.is c.run.ensures.left) (subst (λ (x : CodeParts). c.run.new.self.branches.numbers ≡ map (λ w. w.branch) (jobs_at (plain_code x) c.run.new.self)) code (c.run.ensures.branches c.in-Fork.is)) c.loop-self.invariant.jobs c.loop-self.invariant.job c.loop-self.forks (c.loop-self.invariant.in_job, c.loop-self.invariant.count) c.loop-self.invariant.allowance in
     let short = c.requires.loaded.short None in
     Fits-of_lt (fits_forks c.loop-self.forks (length (block_of (code_in c.args.self.now) c.args.thread.now.number).steps) c.args.thread.now.allowance b short c.requires.loaded.small)
 
 pub finish-loop-self-smaller : goal.finish-loop-self-smaller
 finish-loop-self-smaller g t c =
-    let code : c.self.inside.code.now ≡ c.loop-self.self.code = ap (λ (s : State). s.code) c.self.view_is in
+    let code : c.self.inside.code.now ≡ c.loop-self.self.code = ap (λ (s : SchedulerState). s.code) c.self.view_is in
     let b = bound c.args.self.now c.loop-self.self c.requires.fitted c.args.thread.now c.loop-self.thread c.run.new.self c.loop-self.invariant.number c.loop-self.invariant.leaves (subst (λ (x : CodeParts). Loaded (plain_code x) c.run.new.self) code c.run.ensures.loaded) c.run.ensures.number
     (λ xs st. subst (λ (x : CodeParts). StandsFor (plain_code x) c.run.new.self xs) code (c.run.ensures.stands xs (subst (λ (x : CodeParts). StandsFor (plain_code x) c.loop-self.thread xs) (sym code) st)))
-    (subst (λ e. Left_by c.run.new.self e) c.in-Fork.is c.run.ensures.left) (subst (λ (x : CodeParts). c.run.new.self.branches.numbers ≡ map (λ w. w.branch) (jobs_at (plain_code x) c.run.new.self)) code (c.run.ensures.branches c.in-Fork.is)) c.loop-self.invariant.jobs c.loop-self.invariant.job c.loop-self.forks (c.loop-self.invariant.in_job, c.loop-self.invariant.count) c.loop-self.invariant.allowance in
+    (subst (λ e. LeftByEvent c.run.new.self e) c.in-Fork.is c.run.ensures.left) (subst (λ (x : CodeParts). c.run.new.self.branches.numbers ≡ map (λ w. w.branch) (jobs_at (plain_code x) c.run.new.self)) code (c.run.ensures.branches c.in-Fork.is)) c.loop-self.invariant.jobs c.loop-self.invariant.job c.loop-self.forks (c.loop-self.invariant.in_job, c.loop-self.invariant.count) c.loop-self.invariant.allowance in
     omega (arith, b)
 
 pub finish-loop-self-preserved : goal.finish-loop-self-preserved
 finish-loop-self-preserved g t c =
-    let code : c.self.inside.code.now ≡ c.loop-self.self.code = ap (λ (s : State). s.code) c.self.view_is in
+    let code : c.self.inside.code.now ≡ c.loop-self.self.code = ap (λ (s : SchedulerState). s.code) c.self.view_is in
     let number = c.join.ensures.number ∙ c.settle.ensures.number ∙ c.run.ensures.number ∙ c.loop-self.invariant.number in
-    let leaves = subst (λ n. Leaves n n c.loop-self.self c.run_children.new.self) (c.run.ensures.number ∙ c.loop-self.invariant.number) c.run_children.ensures.leaves in
+    let leaves = subst (λ n. KeepsBelow n n c.loop-self.self c.run_children.new.self) (c.run.ensures.number ∙ c.loop-self.invariant.number) c.run_children.ensures.leaves in
     let now = next c.args.self.now c.loop-self.self c.requires.fitted c.args.thread.now c.loop-self.thread c.run.new.self c.loop-self.invariant.number c.loop-self.invariant.leaves (subst (λ (x : CodeParts). Loaded (plain_code x) c.run.new.self) code c.run.ensures.loaded) c.run.ensures.number
     (λ xs st. subst (λ (x : CodeParts). StandsFor (plain_code x) c.run.new.self xs) code (c.run.ensures.stands xs (subst (λ (x : CodeParts). StandsFor (plain_code x) c.loop-self.thread xs) (sym code) st)))
-    (subst (λ e. Left_by c.run.new.self e) c.in-Fork.is c.run.ensures.left) (subst (λ (x : CodeParts). c.run.new.self.branches.numbers ≡ map (λ w. w.branch) (jobs_at (plain_code x) c.run.new.self)) code (c.run.ensures.branches c.in-Fork.is)) c.loop-self.invariant.jobs c.loop-self.invariant.job c.loop-self.forks (c.loop-self.invariant.in_job, c.loop-self.invariant.count)
+    (subst (λ e. LeftByEvent c.run.new.self e) c.in-Fork.is c.run.ensures.left) (subst (λ (x : CodeParts). c.run.new.self.branches.numbers ≡ map (λ w. w.branch) (jobs_at (plain_code x) c.run.new.self)) code (c.run.ensures.branches c.in-Fork.is)) c.loop-self.invariant.jobs c.loop-self.invariant.job c.loop-self.forks (c.loop-self.invariant.in_job, c.loop-self.invariant.count)
     c.run_children.new.self c.run_children.ensures.leaves c.run_children.ensures.heard.0 c.run_children.ensures.heard.1 c.run_children.ensures.heard.2 c.settle.new.thread c.join.new.thread c.settle.ensures.number c.join.ensures.number
     (λ xs st. c.settle.ensures.stands c.run_children.ensures.heard.0 xs c.run_children.ensures.heard.1 st)
     (λ xs st. c.join.ensures.stands c.run_children.ensures.heard.0 xs (subst (λ l. HaveHeard c.run_children.new.self l c.run_children.ensures.heard.0) (sym c.settle.ensures.branches) c.run_children.ensures.heard.1) st) in
@@ -245,7 +245,7 @@ finish-loop-self-preserved g t c =
           let j = c.loop-self.invariant.done jobs job i in
           (next c.args.self.now c.loop-self.self c.requires.fitted c.args.thread.now c.loop-self.thread c.run.new.self c.loop-self.invariant.number c.loop-self.invariant.leaves (subst (λ (x : CodeParts). Loaded (plain_code x) c.run.new.self) code c.run.ensures.loaded) c.run.ensures.number
           (λ xs st. subst (λ (x : CodeParts). StandsFor (plain_code x) c.run.new.self xs) code (c.run.ensures.stands xs (subst (λ (x : CodeParts). StandsFor (plain_code x) c.loop-self.thread xs) (sym code) st)))
-          (subst (λ e. Left_by c.run.new.self e) c.in-Fork.is c.run.ensures.left) (subst (λ (x : CodeParts). c.run.new.self.branches.numbers ≡ map (λ w. w.branch) (jobs_at (plain_code x) c.run.new.self)) code (c.run.ensures.branches c.in-Fork.is)) jobs job (length j.log.before) (j, refl)
+          (subst (λ e. LeftByEvent c.run.new.self e) c.in-Fork.is c.run.ensures.left) (subst (λ (x : CodeParts). c.run.new.self.branches.numbers ≡ map (λ w. w.branch) (jobs_at (plain_code x) c.run.new.self)) code (c.run.ensures.branches c.in-Fork.is)) jobs job (length j.log.before) (j, refl)
           c.run_children.new.self c.run_children.ensures.leaves c.run_children.ensures.heard.0 c.run_children.ensures.heard.1 c.run_children.ensures.heard.2 c.settle.new.thread c.join.new.thread c.settle.ensures.number c.join.ensures.number
           (λ xs st. c.settle.ensures.stands c.run_children.ensures.heard.0 xs c.run_children.ensures.heard.1 st)
           (λ xs st. c.join.ensures.stands c.run_children.ensures.heard.0 xs (subst (λ l. HaveHeard c.run_children.new.self l c.run_children.ensures.heard.0) (sym c.settle.ensures.branches) c.run_children.ensures.heard.1) st)).0;
@@ -253,7 +253,7 @@ finish-loop-self-preserved g t c =
 
 pub finish-returns : goal.finish-returns
 finish-returns g t c =
-    let code : c.self.inside.code.now ≡ c.loop-self.self.code = ap (λ (s : State). s.code) c.self.view_is in
+    let code : c.self.inside.code.now ≡ c.loop-self.self.code = ap (λ (s : SchedulerState). s.code) c.self.view_is in
     let here = c.loop-self.invariant.leaves.code in
     record {
       loaded = subst (λ (x : CodeParts). Loaded (plain_code x) c.run.new.self) (code ∙ here) c.run.ensures.loaded;

@@ -3,7 +3,7 @@ use Rattle.forec_kernel.specs.Engine.{Job, allowance_of}
 use Rattle.thread_code.specs.Alone.{block_of}
 use Rattle.core_machine.specs.Threads.{Loaded, CanRun}
 use Rattle.core_seats.specs.Done.{InJob}
-use Rattle.core_seats.specs.Keeping.{code_in, QuietAbove, Leaves}
+use Rattle.core_seats.specs.Keeping.{code_in, QuietAbove, KeepsBelow}
 use Rattle.core_seats.specs.ChildrenRun.{Consulted}
 use Rattle.core_seats.proofs.scheduler.Scheduler.+finish.Given as goal
 
@@ -28,7 +28,7 @@ invariant-finish-loop-self g l = record {
   number : l.thread.number ≡ l.fn.thread.number;
   running : CanRun l.thread;
   above : QuietAbove l.self l.fn.thread.number;
-  leaves : Leaves l.fn.thread.number l.fn.thread.number l.fn.self l.self;
+  leaves : KeepsBelow l.fn.thread.number l.fn.thread.number l.fn.self l.self;
   jobs : List Job;
   job : Job;
   in_job : InJob (code_in l.fn.self) l.thread l.self.mail jobs job;

@@ -3,11 +3,11 @@ use Rattle.std.specs.Prelude.{slice_index_or}
 use Rattle.std.proofs.lemmas.Option.{slice_get_within}
 use Rattle.thread_code.specs.declared.instruction.CodeParts.{CodeParts}
 use Rattle.thread_code.specs.Plain.{plain_code}
-use Rattle.core_machine.specs.Threads.{CanRun, Left_by}
+use Rattle.core_machine.specs.Threads.{CanRun, LeftByEvent}
 use Rattle.core_seats.specs.Posts.{Mail}
 use Rattle.core_seats.specs.Changes.{HasProgressed}
 use Rattle.core_seats.specs.Descending.{KeepsRound}
-use Rattle.core_seats.specs.Keeping.{State, code_in, HaveHeard}
+use Rattle.core_seats.specs.Keeping.{SchedulerState, code_in, HaveHeard}
 use Rattle.core_seats.specs.Waiting.{IsForked, CanDescend}
 use Rattle.tick_jobs.proofs.Forks.{replied_by}
 use Rattle.core_seats.proofs.Seats.{can_above, it_sits}
@@ -69,7 +69,7 @@ serve_here-serve_down-requires g t c κs within =
     let smaller : 8 * (256 - c.args.mailbox) + 4 < 8 * (256 - c.args.mailbox) + 5 = omega arith in
     let between =
     it_sits c.args.self.now c.args.mailbox c.args.mailbox (c.args.mailbox + 1) x c.requires.above (omega arith) c.requires.inside (omega arith)
-    (c.index.ensures ∙ ap (λ (s : State). slice_index_or s.seats (c.args.mailbox + 1) x) c.self.view_is) (sym c.is_some.ensures ∙ c.if-is_some.true) in
+    (c.index.ensures ∙ ap (λ (s : SchedulerState). slice_index_or s.seats (c.args.mailbox + 1) x) c.self.view_is) (sym c.is_some.ensures ∙ c.if-is_some.true) in
     let above = can_above c.args.self.now c.args.mailbox (suc c.args.mailbox) (omega arith) c.requires.above in
     (search rules, (within.0, (within.1.0, (within.1.1, (c.requires.inside, (c.requires.seated, (between, above)))))))
 
@@ -95,7 +95,7 @@ run_down-returns-in_default g t c =
     record {
       number = c.run.ensures.number ∙ c.loop.invariant.number;
       descends = c.loop.invariant.descends;
-      working = λ _. runs c.loop.self c.requires.working.work.mailbox (descends_seated c.requires.working.work.mailbox (suc c.requires.working.work.mailbox) c.args.self.now c.loop.self (c.loop.invariant.descends c.requires.working.work.mailbox c.requires.working.work.number) c.requires.seated) c.loop.thread c.run.new.self (c.loop.invariant.number ∙ c.requires.working.work.number) c.loop.invariant.working c.self.inside.code.now (ap (λ (s : State). s.code) c.self.view_is) c.run.ensures.loaded c.run.ensures.number c.run.ensures.stands;
+      working = λ _. runs c.loop.self c.requires.working.work.mailbox (descends_seated c.requires.working.work.mailbox (suc c.requires.working.work.mailbox) c.args.self.now c.loop.self (c.loop.invariant.descends c.requires.working.work.mailbox c.requires.working.work.number) c.requires.seated) c.loop.thread c.run.new.self (c.loop.invariant.number ∙ c.requires.working.work.number) c.loop.invariant.working c.self.inside.code.now (ap (λ (s : SchedulerState). s.code) c.self.view_is) c.run.ensures.loaded c.run.ensures.number c.run.ensures.stands;
       reply = λ _. replied_by c.run.new.self c.run.result c.run.ensures.left c.in_default.not-Fork;
       waiting = λ e. never e;
       sent = λ e m n. never e;
@@ -108,12 +108,12 @@ run_down-serve_fork-requires g t c κs within =
     let smaller : 8 * (257 - c.run.new.self.number) + 1 < 8 * (257 - c.args.thread.now.number) + 2 = omega (arith, number) in
     let d = c.loop.invariant.descends c.requires.working.work.mailbox c.requires.working.work.number in
     let seated = descends_seated c.requires.working.work.mailbox (suc c.requires.working.work.mailbox) c.args.self.now c.loop.self d c.requires.seated in
-    let fork = the_fork c.loop.self c.requires.working.work.mailbox (descends_seated c.requires.working.work.mailbox (suc c.requires.working.work.mailbox) c.args.self.now c.loop.self (c.loop.invariant.descends c.requires.working.work.mailbox c.requires.working.work.number) c.requires.seated) c.loop.thread c.run.new.self (c.loop.invariant.number ∙ c.requires.working.work.number) c.loop.invariant.working c.self.inside.code.now (ap (λ (s : State). s.code) c.self.view_is) c.run.ensures.loaded c.run.ensures.number c.run.ensures.stands
-    (subst (Left_by c.run.new.self) c.in-Fork.is c.run.ensures.left) (c.run.ensures.branches c.in-Fork.is) in
-    let forked = forked_here c.loop.self c.requires.working.work.mailbox (descends_seated c.requires.working.work.mailbox (suc c.requires.working.work.mailbox) c.args.self.now c.loop.self (c.loop.invariant.descends c.requires.working.work.mailbox c.requires.working.work.number) c.requires.seated) c.loop.thread c.run.new.self (c.loop.invariant.number ∙ c.requires.working.work.number) c.loop.invariant.working c.self.inside.code.now (ap (λ (s : State). s.code) c.self.view_is) c.run.ensures.loaded c.run.ensures.number c.run.ensures.stands
-    (subst (Left_by c.run.new.self) c.in-Fork.is c.run.ensures.left) (c.run.ensures.branches c.in-Fork.is) in
-    let told = told_so_far c.loop.self c.requires.working.work.mailbox (descends_seated c.requires.working.work.mailbox (suc c.requires.working.work.mailbox) c.args.self.now c.loop.self (c.loop.invariant.descends c.requires.working.work.mailbox c.requires.working.work.number) c.requires.seated) c.loop.thread c.run.new.self (c.loop.invariant.number ∙ c.requires.working.work.number) c.loop.invariant.working c.self.inside.code.now (ap (λ (s : State). s.code) c.self.view_is) c.run.ensures.loaded c.run.ensures.number c.run.ensures.stands
-    (subst (Left_by c.run.new.self) c.in-Fork.is c.run.ensures.left) (c.run.ensures.branches c.in-Fork.is) in
+    let fork = the_fork c.loop.self c.requires.working.work.mailbox (descends_seated c.requires.working.work.mailbox (suc c.requires.working.work.mailbox) c.args.self.now c.loop.self (c.loop.invariant.descends c.requires.working.work.mailbox c.requires.working.work.number) c.requires.seated) c.loop.thread c.run.new.self (c.loop.invariant.number ∙ c.requires.working.work.number) c.loop.invariant.working c.self.inside.code.now (ap (λ (s : SchedulerState). s.code) c.self.view_is) c.run.ensures.loaded c.run.ensures.number c.run.ensures.stands
+    (subst (LeftByEvent c.run.new.self) c.in-Fork.is c.run.ensures.left) (c.run.ensures.branches c.in-Fork.is) in
+    let forked = forked_here c.loop.self c.requires.working.work.mailbox (descends_seated c.requires.working.work.mailbox (suc c.requires.working.work.mailbox) c.args.self.now c.loop.self (c.loop.invariant.descends c.requires.working.work.mailbox c.requires.working.work.number) c.requires.seated) c.loop.thread c.run.new.self (c.loop.invariant.number ∙ c.requires.working.work.number) c.loop.invariant.working c.self.inside.code.now (ap (λ (s : SchedulerState). s.code) c.self.view_is) c.run.ensures.loaded c.run.ensures.number c.run.ensures.stands
+    (subst (LeftByEvent c.run.new.self) c.in-Fork.is c.run.ensures.left) (c.run.ensures.branches c.in-Fork.is) in
+    let told = told_so_far c.loop.self c.requires.working.work.mailbox (descends_seated c.requires.working.work.mailbox (suc c.requires.working.work.mailbox) c.args.self.now c.loop.self (c.loop.invariant.descends c.requires.working.work.mailbox c.requires.working.work.number) c.requires.seated) c.loop.thread c.run.new.self (c.loop.invariant.number ∙ c.requires.working.work.number) c.loop.invariant.working c.self.inside.code.now (ap (λ (s : SchedulerState). s.code) c.self.view_is) c.run.ensures.loaded c.run.ensures.number c.run.ensures.stands
+    (subst (LeftByEvent c.run.new.self) c.in-Fork.is c.run.ensures.left) (c.run.ensures.branches c.in-Fork.is) in
     let can = descends_can c.requires.working.work.mailbox (suc c.requires.working.work.mailbox) (suc c.requires.working.work.mailbox) c.args.self.now c.loop.self (omega arith) d (subst (CanDescend c.args.self.now) c.requires.working.work.number c.requires.above) in
     let above = subst (CanDescend c.loop.self) (sym (number ∙ c.requires.working.work.number)) can in
     (search rules, (within.0, (within.1.0, (within.1.1, (seated, (fork, (forked, (told, above))))))))
@@ -125,21 +125,21 @@ run_down-returns-then-not-serve_fork-clause-number g t c =
 pub run_down-returns-then-not-serve_fork-clause-descends : goal.run_down-returns-then-not-serve_fork-clause-descends
 run_down-returns-then-not-serve_fork-clause-descends g t c m n =
     descends_then m (suc m) c.args.self.now c.loop.self c.serve_fork.new.self (c.loop.invariant.descends m n)
-    (s1_descends c.loop.self m (descends_seated m (suc m) c.args.self.now c.loop.self (c.loop.invariant.descends m n) c.requires.seated) c.loop.thread c.run.new.self (c.loop.invariant.number ∙ n) c.loop.invariant.working c.self.inside.code.now (ap (λ (s : State). s.code) c.self.view_is) c.run.ensures.loaded c.run.ensures.number c.run.ensures.stands
-    (subst (Left_by c.run.new.self) c.in-Fork.is c.run.ensures.left) (c.run.ensures.branches c.in-Fork.is)
+    (s1_descends c.loop.self m (descends_seated m (suc m) c.args.self.now c.loop.self (c.loop.invariant.descends m n) c.requires.seated) c.loop.thread c.run.new.self (c.loop.invariant.number ∙ n) c.loop.invariant.working c.self.inside.code.now (ap (λ (s : SchedulerState). s.code) c.self.view_is) c.run.ensures.loaded c.run.ensures.number c.run.ensures.stands
+    (subst (LeftByEvent c.run.new.self) c.in-Fork.is c.run.ensures.left) (c.run.ensures.branches c.in-Fork.is)
     c.serve_fork.new.self c.serve_fork.result c.serve_fork.ensures.served)
 
 pub run_down-returns-then-not-serve_fork-clause-waiting : goal.run_down-returns-then-not-serve_fork-clause-waiting
 run_down-returns-then-not-serve_fork-clause-waiting g t c _ =
-    waits_there c.loop.self c.requires.working.work.mailbox (descends_seated c.requires.working.work.mailbox (suc c.requires.working.work.mailbox) c.args.self.now c.loop.self (c.loop.invariant.descends c.requires.working.work.mailbox c.requires.working.work.number) c.requires.seated) c.loop.thread c.run.new.self (c.loop.invariant.number ∙ c.requires.working.work.number) c.loop.invariant.working c.self.inside.code.now (ap (λ (s : State). s.code) c.self.view_is) c.run.ensures.loaded c.run.ensures.number c.run.ensures.stands
-    (subst (Left_by c.run.new.self) c.in-Fork.is c.run.ensures.left) (c.run.ensures.branches c.in-Fork.is)
+    waits_there c.loop.self c.requires.working.work.mailbox (descends_seated c.requires.working.work.mailbox (suc c.requires.working.work.mailbox) c.args.self.now c.loop.self (c.loop.invariant.descends c.requires.working.work.mailbox c.requires.working.work.number) c.requires.seated) c.loop.thread c.run.new.self (c.loop.invariant.number ∙ c.requires.working.work.number) c.loop.invariant.working c.self.inside.code.now (ap (λ (s : SchedulerState). s.code) c.self.view_is) c.run.ensures.loaded c.run.ensures.number c.run.ensures.stands
+    (subst (LeftByEvent c.run.new.self) c.in-Fork.is c.run.ensures.left) (c.run.ensures.branches c.in-Fork.is)
     c.serve_fork.new.self c.serve_fork.result c.serve_fork.ensures.served
 
 pub run_down-returns-then-not-serve_fork-clause-sent : goal.run_down-returns-then-not-serve_fork-clause-sent
 run_down-returns-then-not-serve_fork-clause-sent g t c _ m n =
     sent_since c.args.self.now c.loop.self c.serve_fork.new.self m m (suc m) (c.loop.invariant.descends m n)
-    (has_sent c.loop.self m (descends_seated m (suc m) c.args.self.now c.loop.self (c.loop.invariant.descends m n) c.requires.seated) c.loop.thread c.run.new.self (c.loop.invariant.number ∙ n) c.loop.invariant.working c.self.inside.code.now (ap (λ (s : State). s.code) c.self.view_is) c.run.ensures.loaded c.run.ensures.number c.run.ensures.stands
-    (subst (Left_by c.run.new.self) c.in-Fork.is c.run.ensures.left) (c.run.ensures.branches c.in-Fork.is)
+    (has_sent c.loop.self m (descends_seated m (suc m) c.args.self.now c.loop.self (c.loop.invariant.descends m n) c.requires.seated) c.loop.thread c.run.new.self (c.loop.invariant.number ∙ n) c.loop.invariant.working c.self.inside.code.now (ap (λ (s : SchedulerState). s.code) c.self.view_is) c.run.ensures.loaded c.run.ensures.number c.run.ensures.stands
+    (subst (LeftByEvent c.run.new.self) c.in-Fork.is c.run.ensures.left) (c.run.ensures.branches c.in-Fork.is)
     c.serve_fork.new.self c.serve_fork.result c.serve_fork.ensures.served)
 
 pub run_down-returns-then-not-serve_fork-clause-round : goal.run_down-returns-then-not-serve_fork-clause-round
@@ -148,51 +148,51 @@ run_down-returns-then-not-serve_fork-clause-round g t c =
 
 pub run_down-settle-requires-clause-loaded : goal.run_down-settle-requires-clause-loaded
 run_down-settle-requires-clause-loaded g t c =
-    (has_all c.loop.self c.requires.working.work.mailbox (descends_seated c.requires.working.work.mailbox (suc c.requires.working.work.mailbox) c.args.self.now c.loop.self (c.loop.invariant.descends c.requires.working.work.mailbox c.requires.working.work.number) c.requires.seated) c.loop.thread c.run.new.self (c.loop.invariant.number ∙ c.requires.working.work.number) c.loop.invariant.working c.self.inside.code.now (ap (λ (s : State). s.code) c.self.view_is) c.run.ensures.loaded c.run.ensures.number c.run.ensures.stands
-    (subst (Left_by c.run.new.self) c.in-Fork.is c.run.ensures.left) (c.run.ensures.branches c.in-Fork.is)
+    (has_all c.loop.self c.requires.working.work.mailbox (descends_seated c.requires.working.work.mailbox (suc c.requires.working.work.mailbox) c.args.self.now c.loop.self (c.loop.invariant.descends c.requires.working.work.mailbox c.requires.working.work.number) c.requires.seated) c.loop.thread c.run.new.self (c.loop.invariant.number ∙ c.requires.working.work.number) c.loop.invariant.working c.self.inside.code.now (ap (λ (s : SchedulerState). s.code) c.self.view_is) c.run.ensures.loaded c.run.ensures.number c.run.ensures.stands
+    (subst (LeftByEvent c.run.new.self) c.in-Fork.is c.run.ensures.left) (c.run.ensures.branches c.in-Fork.is)
     c.serve_fork.new.self c.serve_fork.result c.serve_fork.ensures.served c.if-not-serve_fork.false).waiting.work.loaded
 
 pub run_down-settle-requires-clause-fork : goal.run_down-settle-requires-clause-fork
 run_down-settle-requires-clause-fork g t c =
-    subst (Left_by c.run.new.self) c.in-Fork.is c.run.ensures.left
+    subst (LeftByEvent c.run.new.self) c.in-Fork.is c.run.ensures.left
 
 pub run_down-settle-requires-clause-few : goal.run_down-settle-requires-clause-few
 run_down-settle-requires-clause-few g t c =
-    (has_all c.loop.self c.requires.working.work.mailbox (descends_seated c.requires.working.work.mailbox (suc c.requires.working.work.mailbox) c.args.self.now c.loop.self (c.loop.invariant.descends c.requires.working.work.mailbox c.requires.working.work.number) c.requires.seated) c.loop.thread c.run.new.self (c.loop.invariant.number ∙ c.requires.working.work.number) c.loop.invariant.working c.self.inside.code.now (ap (λ (s : State). s.code) c.self.view_is) c.run.ensures.loaded c.run.ensures.number c.run.ensures.stands
-    (subst (Left_by c.run.new.self) c.in-Fork.is c.run.ensures.left) (c.run.ensures.branches c.in-Fork.is)
+    (has_all c.loop.self c.requires.working.work.mailbox (descends_seated c.requires.working.work.mailbox (suc c.requires.working.work.mailbox) c.args.self.now c.loop.self (c.loop.invariant.descends c.requires.working.work.mailbox c.requires.working.work.number) c.requires.seated) c.loop.thread c.run.new.self (c.loop.invariant.number ∙ c.requires.working.work.number) c.loop.invariant.working c.self.inside.code.now (ap (λ (s : SchedulerState). s.code) c.self.view_is) c.run.ensures.loaded c.run.ensures.number c.run.ensures.stands
+    (subst (LeftByEvent c.run.new.self) c.in-Fork.is c.run.ensures.left) (c.run.ensures.branches c.in-Fork.is)
     c.serve_fork.new.self c.serve_fork.result c.serve_fork.ensures.served c.if-not-serve_fork.false).waiting.gathering.forked.few
 
 pub run_down-settle-requires-clause-heard : goal.run_down-settle-requires-clause-heard
 run_down-settle-requires-clause-heard g t c = (
-  (has_all c.loop.self c.requires.working.work.mailbox (descends_seated c.requires.working.work.mailbox (suc c.requires.working.work.mailbox) c.args.self.now c.loop.self (c.loop.invariant.descends c.requires.working.work.mailbox c.requires.working.work.number) c.requires.seated) c.loop.thread c.run.new.self (c.loop.invariant.number ∙ c.requires.working.work.number) c.loop.invariant.working c.self.inside.code.now (ap (λ (s : State). s.code) c.self.view_is) c.run.ensures.loaded c.run.ensures.number c.run.ensures.stands
-      (subst (Left_by c.run.new.self) c.in-Fork.is c.run.ensures.left) (c.run.ensures.branches c.in-Fork.is)
+  (has_all c.loop.self c.requires.working.work.mailbox (descends_seated c.requires.working.work.mailbox (suc c.requires.working.work.mailbox) c.args.self.now c.loop.self (c.loop.invariant.descends c.requires.working.work.mailbox c.requires.working.work.number) c.requires.seated) c.loop.thread c.run.new.self (c.loop.invariant.number ∙ c.requires.working.work.number) c.loop.invariant.working c.self.inside.code.now (ap (λ (s : SchedulerState). s.code) c.self.view_is) c.run.ensures.loaded c.run.ensures.number c.run.ensures.stands
+      (subst (LeftByEvent c.run.new.self) c.in-Fork.is c.run.ensures.left) (c.run.ensures.branches c.in-Fork.is)
       c.serve_fork.new.self c.serve_fork.result c.serve_fork.ensures.served c.if-not-serve_fork.false).waiting.gathering.replies,
-  has_heard c.loop.self c.requires.working.work.mailbox (descends_seated c.requires.working.work.mailbox (suc c.requires.working.work.mailbox) c.args.self.now c.loop.self (c.loop.invariant.descends c.requires.working.work.mailbox c.requires.working.work.number) c.requires.seated) c.loop.thread c.run.new.self (c.loop.invariant.number ∙ c.requires.working.work.number) c.loop.invariant.working c.self.inside.code.now (ap (λ (s : State). s.code) c.self.view_is) c.run.ensures.loaded c.run.ensures.number c.run.ensures.stands
-      (subst (Left_by c.run.new.self) c.in-Fork.is c.run.ensures.left) (c.run.ensures.branches c.in-Fork.is)
+  has_heard c.loop.self c.requires.working.work.mailbox (descends_seated c.requires.working.work.mailbox (suc c.requires.working.work.mailbox) c.args.self.now c.loop.self (c.loop.invariant.descends c.requires.working.work.mailbox c.requires.working.work.number) c.requires.seated) c.loop.thread c.run.new.self (c.loop.invariant.number ∙ c.requires.working.work.number) c.loop.invariant.working c.self.inside.code.now (ap (λ (s : SchedulerState). s.code) c.self.view_is) c.run.ensures.loaded c.run.ensures.number c.run.ensures.stands
+      (subst (LeftByEvent c.run.new.self) c.in-Fork.is c.run.ensures.left) (c.run.ensures.branches c.in-Fork.is)
       c.serve_fork.new.self c.serve_fork.result c.serve_fork.ensures.served c.if-not-serve_fork.false,
 )
 
 pub run_down-join-requires-clause-some : goal.run_down-join-requires-clause-some
 run_down-join-requires-clause-some g t c =
-    subst (λ l. 0 < length l) (sym c.settle.ensures.branches) (has_all c.loop.self c.requires.working.work.mailbox (descends_seated c.requires.working.work.mailbox (suc c.requires.working.work.mailbox) c.args.self.now c.loop.self (c.loop.invariant.descends c.requires.working.work.mailbox c.requires.working.work.number) c.requires.seated) c.loop.thread c.run.new.self (c.loop.invariant.number ∙ c.requires.working.work.number) c.loop.invariant.working c.self.inside.code.now (ap (λ (s : State). s.code) c.self.view_is) c.run.ensures.loaded c.run.ensures.number c.run.ensures.stands
-    (subst (Left_by c.run.new.self) c.in-Fork.is c.run.ensures.left) (c.run.ensures.branches c.in-Fork.is)
+    subst (λ l. 0 < length l) (sym c.settle.ensures.branches) (has_all c.loop.self c.requires.working.work.mailbox (descends_seated c.requires.working.work.mailbox (suc c.requires.working.work.mailbox) c.args.self.now c.loop.self (c.loop.invariant.descends c.requires.working.work.mailbox c.requires.working.work.number) c.requires.seated) c.loop.thread c.run.new.self (c.loop.invariant.number ∙ c.requires.working.work.number) c.loop.invariant.working c.self.inside.code.now (ap (λ (s : SchedulerState). s.code) c.self.view_is) c.run.ensures.loaded c.run.ensures.number c.run.ensures.stands
+    (subst (LeftByEvent c.run.new.self) c.in-Fork.is c.run.ensures.left) (c.run.ensures.branches c.in-Fork.is)
     c.serve_fork.new.self c.serve_fork.result c.serve_fork.ensures.served c.if-not-serve_fork.false).waiting.gathering.forked.some
 
 pub run_down-join-requires-clause-few : goal.run_down-join-requires-clause-few
 run_down-join-requires-clause-few g t c =
-    subst (λ l. length l ≤ 256) (sym c.settle.ensures.branches) (has_all c.loop.self c.requires.working.work.mailbox (descends_seated c.requires.working.work.mailbox (suc c.requires.working.work.mailbox) c.args.self.now c.loop.self (c.loop.invariant.descends c.requires.working.work.mailbox c.requires.working.work.number) c.requires.seated) c.loop.thread c.run.new.self (c.loop.invariant.number ∙ c.requires.working.work.number) c.loop.invariant.working c.self.inside.code.now (ap (λ (s : State). s.code) c.self.view_is) c.run.ensures.loaded c.run.ensures.number c.run.ensures.stands
-    (subst (Left_by c.run.new.self) c.in-Fork.is c.run.ensures.left) (c.run.ensures.branches c.in-Fork.is)
+    subst (λ l. length l ≤ 256) (sym c.settle.ensures.branches) (has_all c.loop.self c.requires.working.work.mailbox (descends_seated c.requires.working.work.mailbox (suc c.requires.working.work.mailbox) c.args.self.now c.loop.self (c.loop.invariant.descends c.requires.working.work.mailbox c.requires.working.work.number) c.requires.seated) c.loop.thread c.run.new.self (c.loop.invariant.number ∙ c.requires.working.work.number) c.loop.invariant.working c.self.inside.code.now (ap (λ (s : SchedulerState). s.code) c.self.view_is) c.run.ensures.loaded c.run.ensures.number c.run.ensures.stands
+    (subst (LeftByEvent c.run.new.self) c.in-Fork.is c.run.ensures.left) (c.run.ensures.branches c.in-Fork.is)
     c.serve_fork.new.self c.serve_fork.result c.serve_fork.ensures.served c.if-not-serve_fork.false).waiting.gathering.forked.few
 
 pub run_down-join-requires-clause-heard : goal.run_down-join-requires-clause-heard
 run_down-join-requires-clause-heard g t c = (
-  (has_all c.loop.self c.requires.working.work.mailbox (descends_seated c.requires.working.work.mailbox (suc c.requires.working.work.mailbox) c.args.self.now c.loop.self (c.loop.invariant.descends c.requires.working.work.mailbox c.requires.working.work.number) c.requires.seated) c.loop.thread c.run.new.self (c.loop.invariant.number ∙ c.requires.working.work.number) c.loop.invariant.working c.self.inside.code.now (ap (λ (s : State). s.code) c.self.view_is) c.run.ensures.loaded c.run.ensures.number c.run.ensures.stands
-      (subst (Left_by c.run.new.self) c.in-Fork.is c.run.ensures.left) (c.run.ensures.branches c.in-Fork.is)
+  (has_all c.loop.self c.requires.working.work.mailbox (descends_seated c.requires.working.work.mailbox (suc c.requires.working.work.mailbox) c.args.self.now c.loop.self (c.loop.invariant.descends c.requires.working.work.mailbox c.requires.working.work.number) c.requires.seated) c.loop.thread c.run.new.self (c.loop.invariant.number ∙ c.requires.working.work.number) c.loop.invariant.working c.self.inside.code.now (ap (λ (s : SchedulerState). s.code) c.self.view_is) c.run.ensures.loaded c.run.ensures.number c.run.ensures.stands
+      (subst (LeftByEvent c.run.new.self) c.in-Fork.is c.run.ensures.left) (c.run.ensures.branches c.in-Fork.is)
       c.serve_fork.new.self c.serve_fork.result c.serve_fork.ensures.served c.if-not-serve_fork.false).waiting.gathering.replies,
-  subst (λ l. HaveHeard c.serve_fork.new.self l (has_all c.loop.self c.requires.working.work.mailbox (descends_seated c.requires.working.work.mailbox (suc c.requires.working.work.mailbox) c.args.self.now c.loop.self (c.loop.invariant.descends c.requires.working.work.mailbox c.requires.working.work.number) c.requires.seated) c.loop.thread c.run.new.self (c.loop.invariant.number ∙ c.requires.working.work.number) c.loop.invariant.working c.self.inside.code.now (ap (λ (s : State). s.code) c.self.view_is) c.run.ensures.loaded c.run.ensures.number c.run.ensures.stands
-      (subst (Left_by c.run.new.self) c.in-Fork.is c.run.ensures.left) (c.run.ensures.branches c.in-Fork.is)
-      c.serve_fork.new.self c.serve_fork.result c.serve_fork.ensures.served c.if-not-serve_fork.false).waiting.gathering.replies) (sym c.settle.ensures.branches) (has_heard c.loop.self c.requires.working.work.mailbox (descends_seated c.requires.working.work.mailbox (suc c.requires.working.work.mailbox) c.args.self.now c.loop.self (c.loop.invariant.descends c.requires.working.work.mailbox c.requires.working.work.number) c.requires.seated) c.loop.thread c.run.new.self (c.loop.invariant.number ∙ c.requires.working.work.number) c.loop.invariant.working c.self.inside.code.now (ap (λ (s : State). s.code) c.self.view_is) c.run.ensures.loaded c.run.ensures.number c.run.ensures.stands
-      (subst (Left_by c.run.new.self) c.in-Fork.is c.run.ensures.left) (c.run.ensures.branches c.in-Fork.is)
+  subst (λ l. HaveHeard c.serve_fork.new.self l (has_all c.loop.self c.requires.working.work.mailbox (descends_seated c.requires.working.work.mailbox (suc c.requires.working.work.mailbox) c.args.self.now c.loop.self (c.loop.invariant.descends c.requires.working.work.mailbox c.requires.working.work.number) c.requires.seated) c.loop.thread c.run.new.self (c.loop.invariant.number ∙ c.requires.working.work.number) c.loop.invariant.working c.self.inside.code.now (ap (λ (s : SchedulerState). s.code) c.self.view_is) c.run.ensures.loaded c.run.ensures.number c.run.ensures.stands
+      (subst (LeftByEvent c.run.new.self) c.in-Fork.is c.run.ensures.left) (c.run.ensures.branches c.in-Fork.is)
+      c.serve_fork.new.self c.serve_fork.result c.serve_fork.ensures.served c.if-not-serve_fork.false).waiting.gathering.replies) (sym c.settle.ensures.branches) (has_heard c.loop.self c.requires.working.work.mailbox (descends_seated c.requires.working.work.mailbox (suc c.requires.working.work.mailbox) c.args.self.now c.loop.self (c.loop.invariant.descends c.requires.working.work.mailbox c.requires.working.work.number) c.requires.seated) c.loop.thread c.run.new.self (c.loop.invariant.number ∙ c.requires.working.work.number) c.loop.invariant.working c.self.inside.code.now (ap (λ (s : SchedulerState). s.code) c.self.view_is) c.run.ensures.loaded c.run.ensures.number c.run.ensures.stands
+      (subst (LeftByEvent c.run.new.self) c.in-Fork.is c.run.ensures.left) (c.run.ensures.branches c.in-Fork.is)
       c.serve_fork.new.self c.serve_fork.result c.serve_fork.ensures.served c.if-not-serve_fork.false),
 )
 
@@ -202,12 +202,12 @@ run_down-loop-preserved g t c =
       number = c.join.ensures.number ∙ c.settle.ensures.number ∙ c.run.ensures.number ∙ c.loop.invariant.number;
       loaded = c.join.ensures.loaded;
       running = c.join.ensures.running;
-      working = works_on c.loop.self c.requires.working.work.mailbox (descends_seated c.requires.working.work.mailbox (suc c.requires.working.work.mailbox) c.args.self.now c.loop.self (c.loop.invariant.descends c.requires.working.work.mailbox c.requires.working.work.number) c.requires.seated) c.loop.thread c.run.new.self (c.loop.invariant.number ∙ c.requires.working.work.number) c.loop.invariant.working c.self.inside.code.now (ap (λ (s : State). s.code) c.self.view_is) c.run.ensures.loaded c.run.ensures.number c.run.ensures.stands
-          (subst (Left_by c.run.new.self) c.in-Fork.is c.run.ensures.left) (c.run.ensures.branches c.in-Fork.is)
+      working = works_on c.loop.self c.requires.working.work.mailbox (descends_seated c.requires.working.work.mailbox (suc c.requires.working.work.mailbox) c.args.self.now c.loop.self (c.loop.invariant.descends c.requires.working.work.mailbox c.requires.working.work.number) c.requires.seated) c.loop.thread c.run.new.self (c.loop.invariant.number ∙ c.requires.working.work.number) c.loop.invariant.working c.self.inside.code.now (ap (λ (s : SchedulerState). s.code) c.self.view_is) c.run.ensures.loaded c.run.ensures.number c.run.ensures.stands
+          (subst (LeftByEvent c.run.new.self) c.in-Fork.is c.run.ensures.left) (c.run.ensures.branches c.in-Fork.is)
           c.serve_fork.new.self c.serve_fork.result c.serve_fork.ensures.served c.if-not-serve_fork.false c.settle.new.thread c.join.new.thread c.join.ensures.loaded c.settle.ensures.number c.join.ensures.number c.settle.ensures.branches c.settle.ensures.stands c.join.ensures.stands;
       descends = λ m n. descends_then m (suc m) c.args.self.now c.loop.self c.serve_fork.new.self (c.loop.invariant.descends m n)
-          (s1_descends c.loop.self m (descends_seated m (suc m) c.args.self.now c.loop.self (c.loop.invariant.descends m n) c.requires.seated) c.loop.thread c.run.new.self (c.loop.invariant.number ∙ n) c.loop.invariant.working c.self.inside.code.now (ap (λ (s : State). s.code) c.self.view_is) c.run.ensures.loaded c.run.ensures.number c.run.ensures.stands
-          (subst (Left_by c.run.new.self) c.in-Fork.is c.run.ensures.left) (c.run.ensures.branches c.in-Fork.is)
+          (s1_descends c.loop.self m (descends_seated m (suc m) c.args.self.now c.loop.self (c.loop.invariant.descends m n) c.requires.seated) c.loop.thread c.run.new.self (c.loop.invariant.number ∙ n) c.loop.invariant.working c.self.inside.code.now (ap (λ (s : SchedulerState). s.code) c.self.view_is) c.run.ensures.loaded c.run.ensures.number c.run.ensures.stands
+          (subst (LeftByEvent c.run.new.self) c.in-Fork.is c.run.ensures.left) (c.run.ensures.branches c.in-Fork.is)
           c.serve_fork.new.self c.serve_fork.result c.serve_fork.ensures.served);
       round = kept_then c.args.round.now c.loop.round c.serve_fork.new.round c.loop.invariant.round c.serve_fork.ensures.round;
     }

@@ -9,7 +9,7 @@ use Rattle.core_machine.specs.Forks.{with_replies, branch_at}
 use Rattle.forec_kernel.specs.Packed.{HasRoom, IsReply}
 use Rattle.combine_tree.specs.declared.packet.Packet.{Packet}
 use Rattle.thread_code.specs.Valid.{of_shape}
-use Rattle.core_seats.specs.Keeping.{State, code_in}
+use Rattle.core_seats.specs.Keeping.{SchedulerState, code_in}
 use Rattle.core_seats.proofs.Hearing.{reply_at, heard_at, in_hands, some_branch, packet_is, not_empty, reply_is}
 use Rattle.tick_jobs.proofs.Lists.{past_end}
 use Rattle.core_seats.proofs.scheduler.Scheduler.join.Goals as goal
@@ -24,14 +24,14 @@ pub index-requires : goal.index-requires
 index-requires g c =
     let at = ap (λ l. slice_get l c.loop-branch.k) (sym c.loop-branch.invariant.branches) ∙ sym c.active.ensures ∙ c.in-Some.is in
     let lt = in_hands c.args.self.now c.args.thread.now.branches.numbers c.requires.heard.0 c.requires.heard.1 c.loop-branch.k c.in-Some.branch at in
-    let less : c.in-Some.branch - 1 < length c.self.inside.hands.items = subst (λ (s : State). c.in-Some.branch - 1 < length s.hands) (sym c.self.view_is) lt in
+    let less : c.in-Some.branch - 1 < length c.self.inside.hands.items = subst (λ (s : SchedulerState). c.in-Some.branch - 1 < length s.hands) (sym c.self.view_is) lt in
     subst (λ n. c.in-Some.branch - 1 < n) (sym c.self.inside.hands.ok.0) less
 
 pub unreachable-requires : goal.unreachable-requires
 unreachable-requires g c =
     let at = ap (λ l. slice_get l c.loop-branch.k) (sym c.loop-branch.invariant.branches) ∙ sym c.active.ensures ∙ c.in-Some.is in
     not_empty c.args.self.now c.args.thread.now.branches.numbers c.requires.heard.0 c.requires.heard.1 c.loop-branch.k c.in-Some.branch at c.index.result.now
-    (c.index.ensures ∙ ap (λ (s : State). slice_index_or s.hands (c.in-Some.branch - 1) c.index.result.now) c.self.view_is) c.in_default-index.is
+    (c.index.ensures ∙ ap (λ (s : SchedulerState). slice_index_or s.hands (c.in-Some.branch - 1) c.index.result.now) c.self.view_is) c.in_default-index.is
 
 pub joined-requires-clause-order : goal.joined-requires-clause-order
 joined-requires-clause-order g c =
@@ -44,9 +44,9 @@ joined-requires-clause-branch g c = slice_get_within c.loop-branch.thread.branch
 pub joined-requires-clause-room : goal.joined-requires-clause-room
 joined-requires-clause-room g c =
     let at = ap (λ l. slice_get l c.loop-branch.k) (sym c.loop-branch.invariant.branches) ∙ sym c.active.ensures ∙ c.in-Some.is in
-    let code = ap (λ (s : State). s.code) c.self.view_is in
+    let code = ap (λ (s : SchedulerState). s.code) c.self.view_is in
     let d = c.index.result.now in
-    let read = c.index.ensures ∙ ap (λ (s : State). slice_index_or s.hands (c.in-Some.branch - 1) d) c.self.view_is in
+    let read = c.index.ensures ∙ ap (λ (s : SchedulerState). slice_index_or s.hands (c.in-Some.branch - 1) d) c.self.view_is in
     let same = packet_is c.args.self.now c.args.thread.now.branches.numbers c.requires.heard.0 c.requires.heard.1 c.loop-branch.k c.in-Some.branch at d read c.in-Some-index.packet c.in-Some-index.is in
     let room = (heard_at c.args.self.now c.args.thread.now.branches.numbers c.requires.heard.0 c.requires.heard.1 c.loop-branch.k c.in-Some.branch at).room in
     let branch = get_or_from_slice_get c.loop-branch.thread.branches.numbers c.loop-branch.k c.in-Some.branch 0 (sym c.active.ensures ∙ c.in-Some.is) in
@@ -75,7 +75,7 @@ loop-branch-init g c = record {
 pub loop-branch-preserved : goal.loop-branch-preserved
 loop-branch-preserved g c =
     let at = ap (λ l. slice_get l c.loop-branch.k) (sym c.loop-branch.invariant.branches) ∙ sym c.active.ensures ∙ c.in-Some.is in
-    let code = ap (λ (s : State). s.code) c.self.view_is in
+    let code = ap (λ (s : SchedulerState). s.code) c.self.view_is in
     let lt = slice_get_within c.args.thread.now.branches.numbers c.loop-branch.k c.in-Some.branch at in
     let count = ap length c.loop-branch.invariant.branches in
     record {
@@ -88,7 +88,7 @@ loop-branch-preserved g c =
       stands = λ rs xs heard before.
           let r = reply_at c.args.self.now c.args.thread.now.branches.numbers rs heard c.loop-branch.k c.in-Some.branch at in
           let is = reply_is c.args.self.now c.args.thread.now.branches.numbers rs heard c.loop-branch.k c.in-Some.branch at c.index.result.now
-          (c.index.ensures ∙ ap (λ (s : State). slice_index_or s.hands (c.in-Some.branch - 1) c.index.result.now) c.self.view_is) c.in-Some-index.packet c.in-Some-index.is in
+          (c.index.ensures ∙ ap (λ (s : SchedulerState). slice_index_or s.hands (c.in-Some.branch - 1) c.index.result.now) c.self.view_is) c.in-Some-index.packet c.in-Some-index.is in
           let old = subst (λ (x : CodeParts). StandsFor (plain_code x) c.loop-branch.thread (with_replies xs rs)) (sym code) (c.loop-branch.invariant.stands rs xs heard before) in
           let new = c.joined.ensures.stands xs rs r.0 (heard.count ∙ sym count) r.1 (subst (λ (p : Packet). IsReply (plain_packet p) r.0) (sym c.deref.ensures) is) old in
           subst (λ (x : CodeParts). StandsFor (plain_code x) c.joined.new.self (with_replies xs rs)) code new;

@@ -8,7 +8,7 @@ use Rattle.core_machine.specs.Forks.{with_replies, IsReplyKind}
 use Rattle.forec_kernel.specs.Packed.{IsReply}
 use Rattle.combine_tree.specs.declared.packet.Packet.{Packet}
 use Rattle.combine_tree.specs.Plain.{plain_packet}
-use Rattle.core_seats.specs.Keeping.{State, code_in}
+use Rattle.core_seats.specs.Keeping.{SchedulerState, code_in}
 use Rattle.core_seats.proofs.Hearing.{reply_kind, reply_at, in_hands, some_branch, not_empty, reply_is}
 use Rattle.tick_jobs.proofs.Lists.{take_more, take_count, take_all, past_end}
 use Rattle.core_seats.proofs.scheduler.Scheduler.settle.Goals as goal
@@ -23,14 +23,14 @@ pub index-requires : goal.index-requires
 index-requires g c =
     let at = ap (λ l. slice_get l c.loop-branch.k) (sym c.loop-branch.invariant.branches) ∙ sym c.active.ensures ∙ c.in-Some.is in
     let lt = in_hands c.args.self.now c.args.thread.now.branches.numbers c.requires.heard.0 c.requires.heard.1 c.loop-branch.k c.in-Some.branch at in
-    let less : c.in-Some.branch - 1 < length c.self.inside.hands.items = subst (λ (s : State). c.in-Some.branch - 1 < length s.hands) (sym c.self.view_is) lt in
+    let less : c.in-Some.branch - 1 < length c.self.inside.hands.items = subst (λ (s : SchedulerState). c.in-Some.branch - 1 < length s.hands) (sym c.self.view_is) lt in
     subst (λ n. c.in-Some.branch - 1 < n) (sym c.self.inside.hands.ok.0) less
 
 pub unreachable-requires : goal.unreachable-requires
 unreachable-requires g c =
     let at = ap (λ l. slice_get l c.loop-branch.k) (sym c.loop-branch.invariant.branches) ∙ sym c.active.ensures ∙ c.in-Some.is in
     not_empty c.args.self.now c.args.thread.now.branches.numbers c.requires.heard.0 c.requires.heard.1 c.loop-branch.k c.in-Some.branch at c.index.result.now
-    (c.index.ensures ∙ ap (λ (s : State). slice_index_or s.hands (c.in-Some.branch - 1) c.index.result.now) c.self.view_is) c.in_default-index.is
+    (c.index.ensures ∙ ap (λ (s : SchedulerState). slice_index_or s.hands (c.in-Some.branch - 1) c.index.result.now) c.self.view_is) c.in_default-index.is
 
 pub settle-requires-clause-branch : goal.settle-requires-clause-branch
 settle-requires-clause-branch g c = slice_get_within c.loop-branch.thread.branches.numbers c.loop-branch.k c.in-Some.branch (sym c.active.ensures ∙ c.in-Some.is)
@@ -42,15 +42,15 @@ settle-requires-clause-reply g c =
     (reply_kind c.in-Some-index.packet.kind c.in-Some-index.packet
     (reply_at c.args.self.now c.args.thread.now.branches.numbers c.requires.heard.0 c.requires.heard.1 c.loop-branch.k c.in-Some.branch at).0 refl
     (reply_is c.args.self.now c.args.thread.now.branches.numbers c.requires.heard.0 c.requires.heard.1 c.loop-branch.k c.in-Some.branch at c.index.result.now
-    (c.index.ensures ∙ ap (λ (s : State). slice_index_or s.hands (c.in-Some.branch - 1) c.index.result.now) c.self.view_is) c.in-Some-index.packet c.in-Some-index.is))
+    (c.index.ensures ∙ ap (λ (s : SchedulerState). slice_index_or s.hands (c.in-Some.branch - 1) c.index.result.now) c.self.view_is) c.in-Some-index.packet c.in-Some-index.is))
 
 same_code : (g : _) (c : goal.After-settle g) → c.self.inside.code.now ≡ c.args.self.now.code
-same_code g c = ap (λ (s : State). s.code) c.self.view_is
+same_code g c = ap (λ (s : SchedulerState). s.code) c.self.view_is
 
 pub loop-branch-preserved : goal.loop-branch-preserved
 loop-branch-preserved g c =
     let at = ap (λ l. slice_get l c.loop-branch.k) (sym c.loop-branch.invariant.branches) ∙ sym c.active.ensures ∙ c.in-Some.is in
-    let code = ap (λ (s : State). s.code) c.self.view_is in
+    let code = ap (λ (s : SchedulerState). s.code) c.self.view_is in
     let lt = slice_get_within c.args.thread.now.branches.numbers c.loop-branch.k c.in-Some.branch at in
     record {
       within = omega (arith, lt);
@@ -61,7 +61,7 @@ loop-branch-preserved g c =
       stands = λ rs xs heard before.
           let r = reply_at c.args.self.now c.args.thread.now.branches.numbers rs heard c.loop-branch.k c.in-Some.branch at in
           let is = reply_is c.args.self.now c.args.thread.now.branches.numbers rs heard c.loop-branch.k c.in-Some.branch at c.index.result.now
-          (c.index.ensures ∙ ap (λ (s : State). slice_index_or s.hands (c.in-Some.branch - 1) c.index.result.now) c.self.view_is) c.in-Some-index.packet c.in-Some-index.is in
+          (c.index.ensures ∙ ap (λ (s : SchedulerState). slice_index_or s.hands (c.in-Some.branch - 1) c.index.result.now) c.self.view_is) c.in-Some-index.packet c.in-Some-index.is in
           let old = subst (λ (x : CodeParts). StandsFor (plain_code x) c.loop-branch.thread (with_replies xs (take c.loop-branch.k rs))) (sym code) (c.loop-branch.invariant.stands rs xs heard before) in
           let new = c.settle.ensures.stands xs (take c.loop-branch.k rs) r.0 (take_count rs c.loop-branch.k (omega (arith, lt, heard.count))) (subst (λ (p : Packet). IsReply (plain_packet p) r.0) (sym c.deref.ensures) is) old in
           let one : suc c.loop-branch.k ≡ c.loop-branch.k + 1 = omega arith in

@@ -1,5 +1,5 @@
 use Rattle.std.proofs.Common.{Some, refl, sym, ap, ◌∙◌}
-use Rattle.core_seats.specs.Keeping.{State}
+use Rattle.core_seats.specs.Keeping.{SchedulerState}
 use Rattle.core_seats.proofs.Rooted.{root_loaded, root_begins, root_followed, root_above, root_quiet, root_rests, root_replies}
 use Rattle.core_seats.proofs.scheduler.Scheduler.work.Goals as goal
 
@@ -47,4 +47,4 @@ returns-clause-replied g c t u jobs job a b done is =
     c.reply.new.packet c.reply.ensures.gives (record { thread = Some c.finish.new.thread; job = c.index_mut-2.result.now.job }) refl t u jobs job a b done is
 
 pub returns-clause-keeper : goal.returns-clause-keeper
-returns-clause-keeper g c = ap (λ (s : State). s.mail.root) c.self-2.view_is ∙ c.finish.ensures.leaves.alike.root ∙ ap (λ (s : State). s.mail.root) c.self.view_is
+returns-clause-keeper g c = ap (λ (s : SchedulerState). s.mail.root) c.self-2.view_is ∙ c.finish.ensures.leaves.alike.root ∙ ap (λ (s : SchedulerState). s.mail.root) c.self.view_is

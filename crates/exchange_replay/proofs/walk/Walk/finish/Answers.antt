@@ -3,7 +3,7 @@ use Rattle.std.proofs.Math.Facts.{Fits-of_lt}
 use Rattle.thread_code.specs.Plain.{plain_code}
 use Rattle.thread_code.specs.Alone.{block_of}
 use Rattle.core_machine.specs.declared.thread.Thread.{Thread}
-use Rattle.core_machine.specs.Threads.{Left_by}
+use Rattle.core_machine.specs.Threads.{LeftByEvent}
 use Rattle.tick_jobs.specs.Writing.{told}
 use Rattle.tick_jobs.proofs.Forks.{fits_forks, replied_by}
 use Rattle.exchange_replay.specs.declared.walk.Walk.{Walk}
@@ -25,7 +25,7 @@ passes_fork-requires-clause-fork c =
     let k = plain_code c.args.code.now in
     let l = c.args.log.now in
     let w1 : Walk = record { thread = c.run.new.self; branches = c.loop-self.self.branches } in
-    let settled = subst (λ e. Left_by c.run.new.self e) c.in-Fork.is c.run.ensures.left in
+    let settled = subst (λ e. LeftByEvent c.run.new.self e) c.in-Fork.is c.run.ensures.left in
     let numbers = c.run.ensures.branches c.in-Fork.is in
     let b = c.requires.begun in
     let run = runs_on k l b.log b.jobs b.job c.loop-self.self w1 refl c.run.ensures.number c.run.ensures.stands (length b.at.log.before + c.loop-self.forks) (i.at b.log b.jobs b.job b.at) in
@@ -37,7 +37,7 @@ passes_fork-requires-clause-passed c =
     let k = plain_code c.args.code.now in
     let l = c.args.log.now in
     let w1 : Walk = record { thread = c.run.new.self; branches = c.loop-self.self.branches } in
-    let settled = subst (λ e. Left_by c.run.new.self e) c.in-Fork.is c.run.ensures.left in
+    let settled = subst (λ e. LeftByEvent c.run.new.self e) c.in-Fork.is c.run.ensures.left in
     let numbers = c.run.ensures.branches c.in-Fork.is in
     let b = c.requires.begun in
     let run = runs_on k l b.log b.jobs b.job c.loop-self.self w1 refl c.run.ensures.number c.run.ensures.stands (length b.at.log.before + c.loop-self.forks) (i.at b.log b.jobs b.job b.at) in
@@ -49,7 +49,7 @@ returns-then-not-passes_fork-clause-walks c pairs jobs job w =
     let k = plain_code c.args.code.now in
     let l = c.args.log.now in
     let w1 : Walk = record { thread = c.run.new.self; branches = c.loop-self.self.branches } in
-    let settled = subst (λ e. Left_by c.run.new.self e) c.in-Fork.is c.run.ensures.left in
+    let settled = subst (λ e. LeftByEvent c.run.new.self e) c.in-Fork.is c.run.ensures.left in
     let numbers = c.run.ensures.branches c.in-Fork.is in
     let run = runs_on k l pairs jobs job c.loop-self.self w1 refl c.run.ensures.number c.run.ensures.stands (length w.log.before + c.loop-self.forks) (i.at pairs jobs job w) in
     let passes = subst (λ r. PassesFork k l pairs c.passes_fork.new.self r (told k w1.thread.number jobs job run.0.log)) c.if-not-passes_fork.true (c.passes_fork.ensures.passes pairs (told k w1.thread.number jobs job run.0.log) run.0.posts) in
@@ -73,7 +73,7 @@ join-requires-clause-some c =
     let k = plain_code c.args.code.now in
     let l = c.args.log.now in
     let w1 : Walk = record { thread = c.run.new.self; branches = c.loop-self.self.branches } in
-    let settled = subst (λ e. Left_by c.run.new.self e) c.in-Fork.is c.run.ensures.left in
+    let settled = subst (λ e. LeftByEvent c.run.new.self e) c.in-Fork.is c.run.ensures.left in
     let numbers = c.run.ensures.branches c.in-Fork.is in
     let b = c.requires.begun in
     let run = runs_on k l b.log b.jobs b.job c.loop-self.self w1 refl c.run.ensures.number c.run.ensures.stands (length b.at.log.before + c.loop-self.forks) (i.at b.log b.jobs b.job b.at) in
@@ -97,7 +97,7 @@ overflow_add-forks c =
     let k = plain_code c.args.code.now in
     let l = c.args.log.now in
     let w1 : Walk = record { thread = c.run.new.self; branches = c.loop-self.self.branches } in
-    let settled = subst (λ e. Left_by c.run.new.self e) c.in-Fork.is c.run.ensures.left in
+    let settled = subst (λ e. LeftByEvent c.run.new.self e) c.in-Fork.is c.run.ensures.left in
     let numbers = c.run.ensures.branches c.in-Fork.is in
     let b = c.requires.begun in
     let run = runs_on k l b.log b.jobs b.job c.loop-self.self w1 refl c.run.ensures.number c.run.ensures.stands (length b.at.log.before + c.loop-self.forks) (i.at b.log b.jobs b.job b.at) in
@@ -111,7 +111,7 @@ loop-self-smaller c =
     let k = plain_code c.args.code.now in
     let l = c.args.log.now in
     let w1 : Walk = record { thread = c.run.new.self; branches = c.loop-self.self.branches } in
-    let settled = subst (λ e. Left_by c.run.new.self e) c.in-Fork.is c.run.ensures.left in
+    let settled = subst (λ e. LeftByEvent c.run.new.self e) c.in-Fork.is c.run.ensures.left in
     let numbers = c.run.ensures.branches c.in-Fork.is in
     let b = c.requires.begun in
     let run = runs_on k l b.log b.jobs b.job c.loop-self.self w1 refl c.run.ensures.number c.run.ensures.stands (length b.at.log.before + c.loop-self.forks) (i.at b.log b.jobs b.job b.at) in
@@ -124,7 +124,7 @@ loop-self-preserved c =
     let k = plain_code c.args.code.now in
     let l = c.args.log.now in
     let w1 : Walk = record { thread = c.run.new.self; branches = c.loop-self.self.branches } in
-    let settled = subst (λ e. Left_by c.run.new.self e) c.in-Fork.is c.run.ensures.left in
+    let settled = subst (λ e. LeftByEvent c.run.new.self e) c.in-Fork.is c.run.ensures.left in
     let numbers = c.run.ensures.branches c.in-Fork.is in
     record {
       loaded = c.join.ensures.loaded;

@@ -1,7 +1,7 @@
 use Rattle.std.proofs.Common.{◌≡◌, ◌∙◌, ◌+◌, ◌<◌, ℕ, sym, ap, refl, List, ◌∷◌, length, get_or, drop, add-one}
 use Rattle.std.specs.Prelude.{reverse}
 use Rattle.std.proofs.Math.Seq.{drop-cons}
-use Rattle.forec_check.specs.AccessScan.{start}
+use Rattle.forec_check.specs.AccessScan.{scan_start}
 use Rattle.forec_check.specs.declared.walk.effects.Effect.{Effect}
 use Rattle.forec_check.specs.AccessCounts.{called_access, scan_effect, scan_effects}
 use Rattle.forec_check.proofs.instances.accesses.text_access.Goals as goal
@@ -10,7 +10,7 @@ next_effect : (es : List Effect) (i : ℕ) (d : Effect) → i < length es → dr
 next_effect es i d h = drop-cons es i d h ∙ rw add-one refl
 
 pub loop-effect-init : goal.loop-effect-init
-loop-effect-init c = (start, record { own = refl; below = refl; round = ap reverse c.new.ensures.items }, refl)
+loop-effect-init c = (scan_start, record { own = refl; below = refl; round = ap reverse c.new.ensures.items }, refl)
 
 pub loop-effect-preserved : goal.loop-effect-preserved
 loop-effect-preserved c =

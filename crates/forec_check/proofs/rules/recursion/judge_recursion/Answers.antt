@@ -1,7 +1,7 @@
 use Rattle.std.proofs.Common.{◌∙◌, sym, ap, subst, length, arith}
 use Rattle.std.proofs.lemmas.List.{length-map}
 use Rattle.forec_tree.specs.Plain.{plain_item}
-use Rattle.loop_check.specs.Views.{text_of}
+use Rattle.loop_check.specs.Views.{indexed_text}
 use Rattle.loop_check.specs.Graph.{callees, FunctionsCall}
 use Rattle.std.specs.Prelude.{slice_get}
 use Rattle.forec_check.proofs.ItemRules.{item_get}
@@ -10,7 +10,7 @@ use Rattle.forec_check.proofs.rules.recursion.judge_recursion.Goals as goal
 
 pub returns : goal.returns
 returns c =
-    let text = text_of c.args.index.now in
+    let text = indexed_text c.args.index.now in
     let e = ap length (sym c.requires.items) in
     let m = length-map c.args.items.now plain_item in
     let t = c.loop-at-test.false in
@@ -20,7 +20,7 @@ pub acyclic-requires : goal.acyclic-requires
 acyclic-requires c =
     subst (λ f. FunctionsCall f (callees c.deref-2.result.now)) (sym c.deref.ensures.value)
     (subst (λ l. FunctionsCall c.args.calls.now.functions.items (callees l)) (sym c.deref-2.ensures.value)
-    (functions_call (text_of c.args.index.now) c.args.calls.now.functions.items (callees c.args.calls.now.lists.items) c.requires.read))
+    (functions_call (indexed_text c.args.index.now) c.args.calls.now.functions.items (callees c.args.calls.now.lists.items) c.requires.read))
 
 pub loop-at-preserved : goal.loop-at-preserved
 loop-at-preserved c = c.in_ok-judge_recursive.ensures

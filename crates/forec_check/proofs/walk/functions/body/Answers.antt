@@ -2,7 +2,7 @@ use Rattle.std.proofs.Common.{◌≡◌, ◌∙◌, sym, ap, refl}
 use Rattle.forec_tree.specs.Plain as plain
 use Rattle.forec_tree.specs.Scopes.{no_scope, with_params}
 use Rattle.forec_tree.specs.Findings.{in_params, in_statements}
-use Rattle.loop_check.specs.Views.{text_of}
+use Rattle.loop_check.specs.Views.{indexed_text}
 use Rattle.forec_check.specs.Views.{judging, scope_of}
 use Rattle.forec_check.specs.Walk.{notes_of, walked}
 use Rattle.forec_check.proofs.Parts.{two}
@@ -12,7 +12,7 @@ pub returns-clause-notes : goal.returns-clause-notes
 returns-clause-notes c =
     let f = c.args.f.now in
     let j = judging c.args.names.now f.gives in
-    let text = text_of c.args.index.now in
+    let text = indexed_text c.args.index.now in
     let k = notes_of c.args.notes.now in
     let scope = c.in_ok-parameters.ensures.scope ∙ ap (λ s. with_params s c.as_slice.result.now) c.hide-outer.ensures.scope ∙ ap (with_params no_scope) c.as_slice.ensures in
     two j (in_params text no_scope f.params) (in_statements text (with_params no_scope f.params) (plain.statements f.body)) k (notes_of c.parameters.new.notes) (notes_of c.statements.new.notes)

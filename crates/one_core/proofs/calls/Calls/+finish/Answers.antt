@@ -6,13 +6,13 @@ use Rattle.forec_kernel.specs.Engine.{Exchange}
 use Rattle.thread_code.specs.declared.instruction.CodeParts.{CodeParts}
 use Rattle.thread_code.specs.Plain.{plain_code}
 use Rattle.thread_code.specs.Alone.{block_of}
-use Rattle.core_machine.specs.Threads.{Loaded, StandsFor, HasSettled, Left_by}
+use Rattle.core_machine.specs.Threads.{Loaded, StandsFor, HasSettled, LeftByEvent}
 use Rattle.core_machine.specs.Forks.{jobs_at, with_replies}
 use Rattle.tick_jobs.proofs.Lists.{past_end}
 use Rattle.tick_jobs.proofs.Forks.{fits_forks, replied_by}
-use Rattle.one_core.specs.Seats.{Seated, code_in, IsFitted, Leaves}
+use Rattle.one_core.specs.Seats.{Seated, seated_code, HasAllSeats, KeepsSeatsBelow}
 use Rattle.tick_jobs.specs.Told.{Book}
-use Rattle.one_core.specs.Called.{CanCall, HasCalled, Consulted, HaveHeard}
+use Rattle.one_core.specs.Called.{CanCall, BranchHasReplied, HasSettledReplies, BranchesHaveReplies}
 use Rattle.one_core.proofs.TellLemmas.{fitted_keeps, leaves_same, leaves_then}
 use Rattle.one_core.proofs.CallLemmas.{seated, fitted_set, in_branches, not_empty, child_loaded, child_at, child_rests, child_takes, number_is, has_begun, has_left, has_called, gave}
 use Rattle.one_core.proofs.ConsultLemmas.{consulted_none, some_call, consulted_more, have_heard}
@@ -60,7 +60,7 @@ call_branches-returns g t c =
     let count = ap length i.branches in
     let same : c.loop-branch.k ≡ length c.args.thread.now.branches.numbers = omega (arith, past, count, i.called.within) in
     record {
-      called = subst (Consulted c.args.self.now c.loop-branch.self c.args.thread.now c.loop-branch.thread) same i.called;
+      called = subst (HasSettledReplies c.args.self.now c.loop-branch.self c.args.thread.now c.loop-branch.thread) same i.called;
       loaded = subst (λ (x : CodeParts). Loaded (plain_code x) c.loop-branch.thread) (sym i.called.leaves.code) i.loaded;
       number = i.number;
       branches = i.branches;
@@ -111,7 +111,7 @@ serve_forks-overflow_add-forks g t c =
     let b = its_bound c.args.self.now c.loop.self c.args.thread.now c.loop.thread i.number c.loop.forks c.requires.begun.book c.requires.begun.jobs c.requires.begun.job w going
     c.requires.fitted i.leaves i.loaded i.fork i.branches (begun_allowance c.args.self.now c.args.thread.now c.requires.begun) c.requires.begun.first in
     let short = c.requires.loaded.short None in
-    Fits-of_lt (fits_forks c.loop.forks (length (block_of (code_in c.args.self.now) c.args.thread.now.number).steps) c.args.thread.now.allowance b short c.requires.loaded.small)
+    Fits-of_lt (fits_forks c.loop.forks (length (block_of (seated_code c.args.self.now) c.args.thread.now.number).steps) c.args.thread.now.allowance b short c.requires.loaded.small)
 
 pub serve_forks-loop-smaller : goal.serve_forks-loop-smaller
 serve_forks-loop-smaller g t c =
@@ -128,14 +128,14 @@ serve_forks-loop-preserved g t c =
     let done = c.call_branches.ensures.called in
     let same = done.leaves.code ∙ i.leaves.code in
     let code : c.self.inside.code.now ≡ c.args.self.now.code = ap (λ (s : Seated). s.code) c.self.view_is ∙ same in
-    let stands : (xs : List Exchange) → StandsFor (code_in c.args.self.now) c.join.new.thread xs → StandsFor (code_in c.args.self.now) c.run.new.self xs = λ xs st. subst (λ (x : CodeParts). StandsFor (plain_code x) c.run.new.self xs) code (c.run.ensures.stands xs (subst (λ (x : CodeParts). StandsFor (plain_code x) c.join.new.thread xs) (sym code) st)) in
+    let stands : (xs : List Exchange) → StandsFor (seated_code c.args.self.now) c.join.new.thread xs → StandsFor (seated_code c.args.self.now) c.run.new.self xs = λ xs st. subst (λ (x : CodeParts). StandsFor (plain_code x) c.run.new.self xs) code (c.run.ensures.stands xs (subst (λ (x : CodeParts). StandsFor (plain_code x) c.join.new.thread xs) (sym code) st)) in
     let le : length c.loop.thread.branches.numbers ≤ length c.loop.thread.branches.numbers = omega arith in
     let all = have_heard c.loop.self c.call_branches.new.self c.loop.thread c.call_branches.new.thread (length c.loop.thread.branches.numbers) done le in
     let number = c.run.ensures.number ∙ c.join.ensures.number ∙ c.call_branches.ensures.number ∙ i.number in
     let there = i.number in
     record {
       loaded = subst (λ (x : CodeParts). Loaded (plain_code x) c.run.new.self) code c.run.ensures.loaded;
-      fork = subst (λ e. Left_by c.run.new.self e) c.in-Fork.is c.run.ensures.left;
+      fork = subst (λ e. LeftByEvent c.run.new.self e) c.in-Fork.is c.run.ensures.left;
       branches = subst (λ (x : CodeParts). c.run.new.self.branches.numbers ≡ map (λ w. w.branch) (jobs_at (plain_code x) c.run.new.self)) code (c.run.ensures.branches c.in-Fork.is);
       number = number;
       leaves = leaves_then c.args.thread.now.number c.loop.thread.number c.args.self.now c.loop.self c.call_branches.new.self (omega (arith, there)) i.leaves done.leaves;
@@ -143,7 +143,7 @@ serve_forks-loop-preserved g t c =
           going_on c.args.self.now c.join.new.thread c.run.new.self c.run.ensures.number stands c.args.thread.now c.call_branches.new.self (c.loop.forks + 1) book jobs job w
           (goes_on c.args.self.now c.loop.self c.args.thread.now c.loop.thread i.number c.loop.forks book jobs job w (i.at book jobs job w)
           c.requires.fitted i.leaves i.loaded i.fork i.branches c.call_branches.new.self c.call_branches.new.thread c.join.new.thread done c.call_branches.ensures.number c.join.ensures.number
-          (λ xs st. c.join.ensures.stands done.replies xs (subst (λ l. HaveHeard c.call_branches.new.self l done.replies) (sym c.call_branches.ensures.branches) all) st));
+          (λ xs st. c.join.ensures.stands done.replies xs (subst (λ l. BranchesHaveReplies c.call_branches.new.self l done.replies) (sym c.call_branches.ensures.branches) all) st));
     }
 
 pub serve_forks-returns-in_default : goal.serve_forks-returns-in_default
@@ -152,7 +152,7 @@ serve_forks-returns-in_default g t c =
     let done = c.call_branches.ensures.called in
     let same = done.leaves.code ∙ i.leaves.code in
     let code : c.self.inside.code.now ≡ c.args.self.now.code = ap (λ (s : Seated). s.code) c.self.view_is ∙ same in
-    let stands : (xs : List Exchange) → StandsFor (code_in c.args.self.now) c.join.new.thread xs → StandsFor (code_in c.args.self.now) c.run.new.self xs = λ xs st. subst (λ (x : CodeParts). StandsFor (plain_code x) c.run.new.self xs) code (c.run.ensures.stands xs (subst (λ (x : CodeParts). StandsFor (plain_code x) c.join.new.thread xs) (sym code) st)) in
+    let stands : (xs : List Exchange) → StandsFor (seated_code c.args.self.now) c.join.new.thread xs → StandsFor (seated_code c.args.self.now) c.run.new.self xs = λ xs st. subst (λ (x : CodeParts). StandsFor (plain_code x) c.run.new.self xs) code (c.run.ensures.stands xs (subst (λ (x : CodeParts). StandsFor (plain_code x) c.join.new.thread xs) (sym code) st)) in
     let le : length c.loop.thread.branches.numbers ≤ length c.loop.thread.branches.numbers = omega arith in
     let all = have_heard c.loop.self c.call_branches.new.self c.loop.thread c.call_branches.new.thread (length c.loop.thread.branches.numbers) done le in
     let number = c.run.ensures.number ∙ c.join.ensures.number ∙ c.call_branches.ensures.number ∙ i.number in
@@ -167,7 +167,7 @@ serve_forks-returns-in_default g t c =
           (going_on c.args.self.now c.join.new.thread c.run.new.self c.run.ensures.number stands c.args.thread.now c.call_branches.new.self (c.loop.forks + 1) book jobs job w
           (goes_on c.args.self.now c.loop.self c.args.thread.now c.loop.thread i.number c.loop.forks book jobs job w (i.at book jobs job w)
           c.requires.fitted i.leaves i.loaded i.fork i.branches c.call_branches.new.self c.call_branches.new.thread c.join.new.thread done c.call_branches.ensures.number c.join.ensures.number
-          (λ xs st. c.join.ensures.stands done.replies xs (subst (λ l. HaveHeard c.call_branches.new.self l done.replies) (sym c.call_branches.ensures.branches) all) st)))
+          (λ xs st. c.join.ensures.stands done.replies xs (subst (λ l. BranchesHaveReplies c.call_branches.new.self l done.replies) (sym c.call_branches.ensures.branches) all) st)))
           same;
     }
 
@@ -176,9 +176,9 @@ serve_forks-returns-in_default g t c =
 pub finish-serve_forks-requires : goal.finish-serve_forks-requires
 finish-serve_forks-requires g t c κs within =
     let code : c.self.inside.code.now ≡ c.args.self.now.code = ap (λ (s : Seated). s.code) c.self.view_is in
-    let stands : (xs : List Exchange) → StandsFor (code_in c.args.self.now) c.args.thread.now xs → StandsFor (code_in c.args.self.now) c.run.new.self xs = λ xs st. subst (λ (x : CodeParts). StandsFor (plain_code x) c.run.new.self xs) code (c.run.ensures.stands xs (subst (λ (x : CodeParts). StandsFor (plain_code x) c.args.thread.now xs) (sym code) st)) in
+    let stands : (xs : List Exchange) → StandsFor (seated_code c.args.self.now) c.args.thread.now xs → StandsFor (seated_code c.args.self.now) c.run.new.self xs = λ xs st. subst (λ (x : CodeParts). StandsFor (plain_code x) c.run.new.self xs) code (c.run.ensures.stands xs (subst (λ (x : CodeParts). StandsFor (plain_code x) c.args.thread.now xs) (sym code) st)) in
     let loaded = subst (λ (x : CodeParts). Loaded (plain_code x) c.run.new.self) code c.run.ensures.loaded in
-    let fork = subst (λ e. Left_by c.run.new.self e) c.in-Fork.is c.run.ensures.left in
+    let fork = subst (λ e. LeftByEvent c.run.new.self e) c.in-Fork.is c.run.ensures.left in
     let branches = subst (λ (x : CodeParts). c.run.new.self.branches.numbers ≡ map (λ w. w.branch) (jobs_at (plain_code x) c.run.new.self)) code (c.run.ensures.branches c.in-Fork.is) in
     let begun = begun_on c.args.self.now c.args.thread.now c.run.new.self c.run.ensures.number stands c.requires.begun in
     let number = c.run.ensures.number in
@@ -188,13 +188,13 @@ finish-serve_forks-requires g t c κs within =
 pub finish-returns-in-Fork-clause-done : goal.finish-returns-in-Fork-clause-done
 finish-returns-in-Fork-clause-done g t c =
     let code : c.self.inside.code.now ≡ c.args.self.now.code = ap (λ (s : Seated). s.code) c.self.view_is in
-    let stands : (xs : List Exchange) → StandsFor (code_in c.args.self.now) c.args.thread.now xs → StandsFor (code_in c.args.self.now) c.run.new.self xs = λ xs st. subst (λ (x : CodeParts). StandsFor (plain_code x) c.run.new.self xs) code (c.run.ensures.stands xs (subst (λ (x : CodeParts). StandsFor (plain_code x) c.args.thread.now xs) (sym code) st)) in
+    let stands : (xs : List Exchange) → StandsFor (seated_code c.args.self.now) c.args.thread.now xs → StandsFor (seated_code c.args.self.now) c.run.new.self xs = λ xs st. subst (λ (x : CodeParts). StandsFor (plain_code x) c.run.new.self xs) code (c.run.ensures.stands xs (subst (λ (x : CodeParts). StandsFor (plain_code x) c.args.thread.now xs) (sym code) st)) in
     stays_after c.args.self.now c.args.thread.now c.run.new.self c.run.ensures.number stands c.serve_forks.new.self c.serve_forks.new.thread c.serve_forks.ensures.done
 
 pub finish-returns-in_default : goal.finish-returns-in_default
 finish-returns-in_default g t c =
     let code : c.self.inside.code.now ≡ c.args.self.now.code = ap (λ (s : Seated). s.code) c.self.view_is in
-    let stands : (xs : List Exchange) → StandsFor (code_in c.args.self.now) c.args.thread.now xs → StandsFor (code_in c.args.self.now) c.run.new.self xs = λ xs st. subst (λ (x : CodeParts). StandsFor (plain_code x) c.run.new.self xs) code (c.run.ensures.stands xs (subst (λ (x : CodeParts). StandsFor (plain_code x) c.args.thread.now xs) (sym code) st)) in
+    let stands : (xs : List Exchange) → StandsFor (seated_code c.args.self.now) c.args.thread.now xs → StandsFor (seated_code c.args.self.now) c.run.new.self xs = λ xs st. subst (λ (x : CodeParts). StandsFor (plain_code x) c.run.new.self xs) code (c.run.ensures.stands xs (subst (λ (x : CodeParts). StandsFor (plain_code x) c.args.thread.now xs) (sym code) st)) in
     record {
       loaded = subst (λ (x : CodeParts). Loaded (plain_code x) c.run.new.self) code c.run.ensures.loaded;
       number = c.run.ensures.number;
@@ -208,60 +208,60 @@ finish-returns-in_default g t c =
 pub call_branch-unreachable-requires : goal.call_branch-unreachable-requires
 call_branch-unreachable-requires g t c =
     let some : (book : Book) × CanCall (seated c.self.inside.code.now c.self.inside.seats.items) c.args.thread.now c.args.k c.args.branch book = subst (λ s. (book : Book) × CanCall s c.args.thread.now c.args.k c.args.branch book) (sym c.self.view_is) c.requires.job in
-    not_empty c.self.inside.code.now c.self.inside.seats.items (subst IsFitted (sym c.self.view_is) c.requires.fitted) c.args.thread.now c.args.k c.args.branch c.requires.branch some.0 some.1 c.index_mut.result.now c.index_mut.ensures.value (sym c.take.ensures.value ∙ c.in_default.is)
+    not_empty c.self.inside.code.now c.self.inside.seats.items (subst HasAllSeats (sym c.self.view_is) c.requires.fitted) c.args.thread.now c.args.k c.args.branch c.requires.branch some.0 some.1 c.index_mut.result.now c.index_mut.ensures.value (sym c.take.ensures.value ∙ c.in_default.is)
 
 pub call_branch-call_branch-requires-clause-index : goal.call_branch-call_branch-requires-clause-index
 call_branch-call_branch-requires-clause-index g t c =
-    in_branches c.self.inside.code.now c.self.inside.seats.items (subst IsFitted (sym c.self.view_is) c.requires.fitted) c.args.thread.now c.args.k c.args.branch c.requires.branch
+    in_branches c.self.inside.code.now c.self.inside.seats.items (subst HasAllSeats (sym c.self.view_is) c.requires.fitted) c.args.thread.now c.args.k c.args.branch c.requires.branch
 
 pub call_branch-call_branch-requires-clause-branch : goal.call_branch-call_branch-requires-clause-branch
 call_branch-call_branch-requires-clause-branch g t c =
     let some : (book : Book) × CanCall (seated c.self.inside.code.now c.self.inside.seats.items) c.args.thread.now c.args.k c.args.branch book = subst (λ s. (book : Book) × CanCall s c.args.thread.now c.args.k c.args.branch book) (sym c.self.view_is) c.requires.job in
-    child_loaded c.self.inside.code.now c.self.inside.seats.items (subst IsFitted (sym c.self.view_is) c.requires.fitted) c.args.thread.now c.args.k c.args.branch c.requires.branch some.0 some.1 c.index_mut.result.now c.index_mut.ensures.value
+    child_loaded c.self.inside.code.now c.self.inside.seats.items (subst HasAllSeats (sym c.self.view_is) c.requires.fitted) c.args.thread.now c.args.k c.args.branch c.requires.branch some.0 some.1 c.index_mut.result.now c.index_mut.ensures.value
     c.deref_mut-called.result.now (sym c.take.ensures.value ∙ c.in-Some.is ∙ ap Some (sym c.deref_mut-called.ensures.value))
 
 pub call_branch-call_branch-requires-clause-number : goal.call_branch-call_branch-requires-clause-number
 call_branch-call_branch-requires-clause-number g t c =
     let some : (book : Book) × CanCall (seated c.self.inside.code.now c.self.inside.seats.items) c.args.thread.now c.args.k c.args.branch book = subst (λ s. (book : Book) × CanCall s c.args.thread.now c.args.k c.args.branch book) (sym c.self.view_is) c.requires.job in
-    child_at c.self.inside.code.now c.self.inside.seats.items (subst IsFitted (sym c.self.view_is) c.requires.fitted) c.args.thread.now c.args.k c.args.branch c.requires.branch some.0 some.1 c.index_mut.result.now c.index_mut.ensures.value
+    child_at c.self.inside.code.now c.self.inside.seats.items (subst HasAllSeats (sym c.self.view_is) c.requires.fitted) c.args.thread.now c.args.k c.args.branch c.requires.branch some.0 some.1 c.index_mut.result.now c.index_mut.ensures.value
     c.deref_mut-called.result.now (sym c.take.ensures.value ∙ c.in-Some.is ∙ ap Some (sym c.deref_mut-called.ensures.value))
 
 pub call_branch-call_branch-requires-clause-resting : goal.call_branch-call_branch-requires-clause-resting
 call_branch-call_branch-requires-clause-resting g t c =
     let some : (book : Book) × CanCall (seated c.self.inside.code.now c.self.inside.seats.items) c.args.thread.now c.args.k c.args.branch book = subst (λ s. (book : Book) × CanCall s c.args.thread.now c.args.k c.args.branch book) (sym c.self.view_is) c.requires.job in
-    child_rests c.self.inside.code.now c.self.inside.seats.items (subst IsFitted (sym c.self.view_is) c.requires.fitted) c.args.thread.now c.args.k c.args.branch c.requires.branch some.0 some.1 c.index_mut.result.now c.index_mut.ensures.value
+    child_rests c.self.inside.code.now c.self.inside.seats.items (subst HasAllSeats (sym c.self.view_is) c.requires.fitted) c.args.thread.now c.args.k c.args.branch c.requires.branch some.0 some.1 c.index_mut.result.now c.index_mut.ensures.value
     c.deref_mut-called.result.now (sym c.take.ensures.value ∙ c.in-Some.is ∙ ap Some (sym c.deref_mut-called.ensures.value))
 
 pub call_branch-call_branch-requires-clause-job : goal.call_branch-call_branch-requires-clause-job
 call_branch-call_branch-requires-clause-job g t c =
     let some : (book : Book) × CanCall (seated c.self.inside.code.now c.self.inside.seats.items) c.args.thread.now c.args.k c.args.branch book = subst (λ s. (book : Book) × CanCall s c.args.thread.now c.args.k c.args.branch book) (sym c.self.view_is) c.requires.job in
-    child_takes c.self.inside.code.now c.self.inside.seats.items (subst IsFitted (sym c.self.view_is) c.requires.fitted) c.args.thread.now c.args.k c.args.branch c.requires.branch some.0 some.1 c.index_mut.result.now c.index_mut.ensures.value
+    child_takes c.self.inside.code.now c.self.inside.seats.items (subst HasAllSeats (sym c.self.view_is) c.requires.fitted) c.args.thread.now c.args.k c.args.branch c.requires.branch some.0 some.1 c.index_mut.result.now c.index_mut.ensures.value
     c.deref_mut-called.result.now (sym c.take.ensures.value ∙ c.in-Some.is ∙ ap Some (sym c.deref_mut-called.ensures.value))
 
 pub call_branch-returns-clause-leaves : goal.call_branch-returns-clause-leaves
 call_branch-returns-clause-leaves g t c =
     let some : (book : Book) × CanCall (seated c.self.inside.code.now c.self.inside.seats.items) c.args.thread.now c.args.k c.args.branch book = subst (λ s. (book : Book) × CanCall s c.args.thread.now c.args.k c.args.branch book) (sym c.self.view_is) c.requires.job in
-    subst (λ s. Leaves c.args.branch s (seated c.self-2.inside.code.now (slice_set c.self-2.inside.seats.items c.args.branch (Some c.finish.new.thread)))) c.self.view_is
-    (has_left c.self.inside.code.now c.self.inside.seats.items (subst IsFitted (sym c.self.view_is) c.requires.fitted) c.args.thread.now c.args.k c.args.branch c.requires.branch some c.index_mut.result.now c.index_mut.ensures.value c.deref_mut-called.result.now (sym c.take.ensures.value ∙ c.in-Some.is ∙ ap Some (sym c.deref_mut-called.ensures.value))
+    subst (λ s. KeepsSeatsBelow c.args.branch s (seated c.self-2.inside.code.now (slice_set c.self-2.inside.seats.items c.args.branch (Some c.finish.new.thread)))) c.self.view_is
+    (has_left c.self.inside.code.now c.self.inside.seats.items (subst HasAllSeats (sym c.self.view_is) c.requires.fitted) c.args.thread.now c.args.k c.args.branch c.requires.branch some c.index_mut.result.now c.index_mut.ensures.value c.deref_mut-called.result.now (sym c.take.ensures.value ∙ c.in-Some.is ∙ ap Some (sym c.deref_mut-called.ensures.value))
     c.take.new.self c.call_branch.new.branch c.call_branch.ensures.number c.call_branch.ensures.stands
     c.finish.new.self c.finish.ensures.leaves c.finish.new.thread c.finish.ensures.number c.finish.ensures.loaded c.finish.ensures.reply c.finish.ensures.done c.self-2.inside.code.now c.self-2.inside.seats.items c.self-2.view_is (Some c.finish.new.thread) refl)
 
 pub call_branch-returns-clause-called : goal.call_branch-returns-clause-called
 call_branch-returns-clause-called g t c =
     let some : (book : Book) × CanCall (seated c.self.inside.code.now c.self.inside.seats.items) c.args.thread.now c.args.k c.args.branch book = subst (λ s. (book : Book) × CanCall s c.args.thread.now c.args.k c.args.branch book) (sym c.self.view_is) c.requires.job in
-    subst (λ s. HasCalled s (seated c.self-2.inside.code.now (slice_set c.self-2.inside.seats.items c.args.branch (Some c.finish.new.thread))) c.args.thread.now c.args.k c.args.branch) c.self.view_is
-    (has_called c.self.inside.code.now c.self.inside.seats.items (subst IsFitted (sym c.self.view_is) c.requires.fitted) c.args.thread.now c.args.k c.args.branch c.requires.branch some c.index_mut.result.now c.index_mut.ensures.value c.deref_mut-called.result.now (sym c.take.ensures.value ∙ c.in-Some.is ∙ ap Some (sym c.deref_mut-called.ensures.value))
+    subst (λ s. BranchHasReplied s (seated c.self-2.inside.code.now (slice_set c.self-2.inside.seats.items c.args.branch (Some c.finish.new.thread))) c.args.thread.now c.args.k c.args.branch) c.self.view_is
+    (has_called c.self.inside.code.now c.self.inside.seats.items (subst HasAllSeats (sym c.self.view_is) c.requires.fitted) c.args.thread.now c.args.k c.args.branch c.requires.branch some c.index_mut.result.now c.index_mut.ensures.value c.deref_mut-called.result.now (sym c.take.ensures.value ∙ c.in-Some.is ∙ ap Some (sym c.deref_mut-called.ensures.value))
     c.take.new.self c.call_branch.new.branch c.call_branch.ensures.number c.call_branch.ensures.stands
     c.finish.new.self c.finish.ensures.leaves c.finish.new.thread c.finish.ensures.number c.finish.ensures.loaded c.finish.ensures.reply c.finish.ensures.done c.self-2.inside.code.now c.self-2.inside.seats.items c.self-2.view_is (Some c.finish.new.thread) refl)
 
 pub call_branch-finish-requires : goal.call_branch-finish-requires
 call_branch-finish-requires g t c κs within =
     let some : (book : Book) × CanCall (seated c.self.inside.code.now c.self.inside.seats.items) c.args.thread.now c.args.k c.args.branch book = subst (λ s. (book : Book) × CanCall s c.args.thread.now c.args.k c.args.branch book) (sym c.self.view_is) c.requires.job in
-    let number = number_is c.self.inside.code.now c.self.inside.seats.items (subst IsFitted (sym c.self.view_is) c.requires.fitted) c.args.thread.now c.args.k c.args.branch c.requires.branch some.0 some.1 c.index_mut.result.now c.index_mut.ensures.value
+    let number = number_is c.self.inside.code.now c.self.inside.seats.items (subst HasAllSeats (sym c.self.view_is) c.requires.fitted) c.args.thread.now c.args.k c.args.branch c.requires.branch some.0 some.1 c.index_mut.result.now c.index_mut.ensures.value
     c.deref_mut-called.result.now (sym c.take.ensures.value ∙ c.in-Some.is ∙ ap Some (sym c.deref_mut-called.ensures.value)) c.take.new.self c.call_branch.new.branch c.call_branch.ensures.number c.call_branch.ensures.stands in
-    let begun = has_begun c.self.inside.code.now c.self.inside.seats.items (subst IsFitted (sym c.self.view_is) c.requires.fitted) c.args.thread.now c.args.k c.args.branch c.requires.branch some.0 some.1 c.index_mut.result.now c.index_mut.ensures.value
+    let begun = has_begun c.self.inside.code.now c.self.inside.seats.items (subst HasAllSeats (sym c.self.view_is) c.requires.fitted) c.args.thread.now c.args.k c.args.branch c.requires.branch some.0 some.1 c.index_mut.result.now c.index_mut.ensures.value
     c.deref_mut-called.result.now (sym c.take.ensures.value ∙ c.in-Some.is ∙ ap Some (sym c.deref_mut-called.ensures.value)) c.take.new.self c.call_branch.new.branch c.call_branch.ensures.number c.call_branch.ensures.stands in
-    let fitted = fitted_set c.self.inside.code.now c.self.inside.seats.items (subst IsFitted (sym c.self.view_is) c.requires.fitted) c.args.branch c.take.new.self in
+    let fitted = fitted_set c.self.inside.code.now c.self.inside.seats.items (subst HasAllSeats (sym c.self.view_is) c.requires.fitted) c.args.branch c.take.new.self in
     let smaller : 4 * (257 - c.call_branch.new.branch.number) + 3 < 4 * (257 - c.args.branch) + 4 = omega (arith, number) in
     (search rules, (within, (fitted, (c.call_branch.ensures.loaded, (c.call_branch.ensures.running, begun)))))
 
@@ -304,7 +304,7 @@ call_branches-call_branch-requires g t c κs within =
     let loaded = subst (λ (x : CodeParts). Loaded (plain_code x) c.loop-branch.thread) (sym i.called.leaves.code) i.loaded in
     let few = fitted.valid.shape.few_threads in
     let same = fitted.valid.threads in
-    let lt = subst (λ n. n < length (code_in c.loop-branch.self).threads) some.1.number some.1.is.inside in
+    let lt = subst (λ n. n < length (seated_code c.loop-branch.self).threads) some.1.number some.1.is.inside in
     let above = subst (λ n. c.loop-branch.thread.number < n) some.1.number some.1.is.above in
     let number = i.number in
     let smaller : 4 * (257 - c.in-Some.branch) + 4 < 4 * (257 - c.args.thread.now.number) + 1 = omega (arith, few, same, lt, above, number) in

@@ -3,10 +3,10 @@ use Rattle.forec_kernel.specs.Engine.{Job}
 use Rattle.thread_code.specs.Alone.{block_of}
 use Rattle.core_machine.specs.Threads.{Loaded, HasSettled}
 use Rattle.core_machine.specs.Forks.{jobs_at}
-use Rattle.one_core.specs.Seats.{code_in, Leaves}
+use Rattle.one_core.specs.Seats.{seated_code, KeepsSeatsBelow}
 use Rattle.tick_jobs.specs.Told.{Book}
-use Rattle.one_core.specs.Resting.{Works}
-use Rattle.one_core.specs.Called.{Consulted}
+use Rattle.one_core.specs.Resting.{IsAtJob}
+use Rattle.one_core.specs.Called.{HasSettledReplies}
 use Rattle.one_core.proofs.FinishLemmas.{Going}
 use Rattle.one_core.proofs.calls.Calls.+finish.Given as goal
 
@@ -24,12 +24,12 @@ decreases-serve_forks g l = 4 * (257 - l.thread.now.number) + 2
 
 abbrev pub invariant-call_branches-loop-branch : goal.invariant-call_branches-loop-branch
 invariant-call_branches-loop-branch g l = record {
-  called : Consulted l.fn.self l.self l.fn.thread l.thread l.k;
-  loaded : Loaded (code_in l.fn.self) l.thread;
+  called : HasSettledReplies l.fn.self l.self l.fn.thread l.thread l.k;
+  loaded : Loaded (seated_code l.fn.self) l.thread;
   number : l.thread.number ≡ l.fn.thread.number;
   branches : l.thread.branches.numbers ≡ l.fn.thread.branches.numbers;
   order : HasSettled l.thread l.k;
-  jobs : jobs_at (code_in l.fn.self) l.thread ≡ jobs_at (code_in l.fn.self) l.fn.thread;
+  jobs : jobs_at (seated_code l.fn.self) l.thread ≡ jobs_at (seated_code l.fn.self) l.fn.thread;
 }
 
 abbrev pub decreases-call_branches-loop-branch : goal.decreases-call_branches-loop-branch
@@ -37,14 +37,14 @@ decreases-call_branches-loop-branch g l = length l.fn.thread.branches.numbers - 
 
 abbrev pub invariant-serve_forks-loop : goal.invariant-serve_forks-loop
 invariant-serve_forks-loop g l = record {
-  loaded : Loaded (code_in l.fn.self) l.thread;
+  loaded : Loaded (seated_code l.fn.self) l.thread;
   fork : HasSettled l.thread 0;
-  branches : l.thread.branches.numbers ≡ map (λ w. w.branch) (jobs_at (code_in l.fn.self) l.thread);
+  branches : l.thread.branches.numbers ≡ map (λ w. w.branch) (jobs_at (seated_code l.fn.self) l.thread);
   number : l.thread.number ≡ l.fn.thread.number;
-  leaves : Leaves l.fn.thread.number l.fn.self l.self;
-  at : (book : Book) (jobs : List Job) (job : Job) (w : Works l.fn.self l.fn.thread book jobs job) → Going l.fn.self l.fn.thread l.self l.thread l.forks book jobs job w;
+  leaves : KeepsSeatsBelow l.fn.thread.number l.fn.self l.self;
+  at : (book : Book) (jobs : List Job) (job : Job) (w : IsAtJob l.fn.self l.fn.thread book jobs job) → Going l.fn.self l.fn.thread l.self l.thread l.forks book jobs job w;
 }
 
 abbrev pub decreases-serve_forks-loop : goal.decreases-serve_forks-loop
 decreases-serve_forks-loop g l =
-    (length (block_of (code_in l.fn.self) l.fn.thread.number).steps + 2) * l.fn.thread.allowance + (length (block_of (code_in l.fn.self) l.fn.thread.number).steps + 2) - l.forks
+    (length (block_of (seated_code l.fn.self) l.fn.thread.number).steps + 2) * l.fn.thread.allowance + (length (block_of (seated_code l.fn.self) l.fn.thread.number).steps + 2) - l.forks

@@ -2,19 +2,19 @@ use Rattle.std.proofs.Common.{◌≡◌, ◌<◌, ◌≤◌, ◌-◌, List, leng
 use Rattle.forec_kernel.specs.Engine.{Reply, Exchange}
 use Rattle.core_machine.specs.Threads.{Loaded, StandsFor, HasJoined, CanRun}
 use Rattle.core_machine.specs.Forks.{with_replies}
-use Rattle.one_core.specs.Seats.{code_in}
-use Rattle.one_core.specs.Called.{HaveHeard}
+use Rattle.one_core.specs.Seats.{seated_code}
+use Rattle.one_core.specs.Called.{BranchesHaveReplies}
 use Rattle.one_core.proofs.calls.Calls.join.Given as goal
 
 abbrev pub invariant-loop-branch : goal.invariant-loop-branch
 invariant-loop-branch l = record {
   within : l.k ≤ length l.fn.thread.branches.numbers;
-  loaded : Loaded (code_in l.fn.self) l.thread;
+  loaded : Loaded (seated_code l.fn.self) l.thread;
   number : l.thread.number ≡ l.fn.thread.number;
   branches : l.thread.branches.numbers ≡ l.fn.thread.branches.numbers;
   order : l.k < length l.fn.thread.branches.numbers → HasJoined l.thread l.k;
   running : l.k ≡ length l.fn.thread.branches.numbers → CanRun l.thread;
-  stands : (rs : List Reply) (xs : List Exchange) → HaveHeard l.fn.self l.fn.thread.branches.numbers rs → StandsFor (code_in l.fn.self) l.fn.thread (with_replies xs rs) → StandsFor (code_in l.fn.self) l.thread (with_replies xs rs);
+  stands : (rs : List Reply) (xs : List Exchange) → BranchesHaveReplies l.fn.self l.fn.thread.branches.numbers rs → StandsFor (seated_code l.fn.self) l.fn.thread (with_replies xs rs) → StandsFor (seated_code l.fn.self) l.thread (with_replies xs rs);
 }
 
 abbrev pub decreases-loop-branch : goal.decreases-loop-branch

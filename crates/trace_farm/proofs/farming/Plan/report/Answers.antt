@@ -2,7 +2,7 @@ use Rattle.std.proofs.Common.{◌≡◌, ap, ◌∙◌}
 use Rattle.forec_kernel.specs.Shapes.{PlainShape, plain_shape}
 use Rattle.thread_code.specs.Plain.{plain_code}
 use Rattle.core_host.specs.Hosted.{code_of}
-use Rattle.core_host.specs.Runs.{HasRun}
+use Rattle.core_host.specs.Runs.{HostHasRun}
 use Rattle.trace_runs.specs.Formats.{format_for}
 use Rattle.trace_runs.specs.KernelNames.{outputs_of}
 use Rattle.trace_runs.specs.declared.format.Telling.TheVariants as telling
@@ -18,7 +18,7 @@ returns g c = λ k formed stands.
     let fresh = c.in_ok-host.ensures in
     let session = c.in_ok-session.session in
     let is : code_of host ≡ code = ap plain_code fresh.code_is in
-    let starts = code_starts code (code_of host) (HasRun host) k is formed stands fresh.none in
+    let starts = code_starts code (code_of host) (HostHasRun host) k is formed stands fresh.none in
     let told = c.in_ok-session.ensures.format ∙ ap (λ (s : PlainShape). format_for telling.Report (outputs_of s)) (ap plain_shape c.shape.ensures.same ∙ stands.shape) in
     reported self.rows session.limit self.budget session.budget session.waiting.format k c.args.trace.now (slice_left c.new-source.result) (report_held c.in_ok-out.out)
     (report_held c.run-status.new.out) c.shrink_to_fit.new.self.items c.run-status.result c.of.result c.in_ok-session.ensures.limit

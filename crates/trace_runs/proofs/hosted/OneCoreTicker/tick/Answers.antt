@@ -1,4 +1,4 @@
-use Rattle.one_core.specs.Single.{ticking}
+use Rattle.one_core.specs.Single.{single_ticking}
 use Rattle.trace_runs.proofs.Following.{code_ticks}
 use Rattle.trace_runs.proofs.hosted.OneCoreTicker.tick.Goals as goal
 

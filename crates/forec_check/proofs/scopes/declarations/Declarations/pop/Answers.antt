@@ -1,5 +1,5 @@
 use Rattle.std.proofs.Common.{◌≡◌, ◌∙◌, ap, subst, ◌++◌, ◌∷◌, [], arith}
-use Rattle.forec_check.specs.Declarations.{last_of, Chained}
+use Rattle.forec_check.specs.Declarations.{last_of, AreDeclarationsChained}
 use Rattle.forec_check.proofs.DeclarationLaws.{popped, chained_pop, has_place}
 use Rattle.forec_check.proofs.scopes.declarations.Declarations.pop.Goals as goal
 
@@ -8,7 +8,7 @@ invariant_of-self c =
     let es = c.pop.new.self.items in
     let e = c.in-Some.declaration in
     let old : c.args.self.now.list.items ≡ es ++ e ∷ [] = c.in-Some.ensures.items in
-    let chained : Chained (es ++ e ∷ []) = subst (λ xs. Chained xs) old c.args.self.now.chained in
+    let chained : AreDeclarationsChained (es ++ e ∷ []) = subst (λ xs. AreDeclarationsChained xs) old c.args.self.now.chained in
     record {
       latest_right = popped es e c.args.self.now.latest.items chained (λ id. c.args.self.now.latest_right id ∙ ap (last_of id) old) (let t = c.if-at-len.true in let n = c.len.ensures in omega (arith, t, n));
       chained = chained_pop es e chained;

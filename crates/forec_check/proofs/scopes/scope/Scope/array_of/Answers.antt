@@ -1,7 +1,7 @@
 use Rattle.std.proofs.Common.{◌≡◌, ◌∙◌, ◌<◌, ◌-◌, ℕ, zero, suc, List, [], ◌∷◌, refl, sym, ap, Some, None, length, get_or, arith}
 use Rattle.forec_tree.specs.Scopes.{find_last}
 use Rattle.forec_check.specs.declared.scopes.declaration.Declaration.{Declaration}
-use Rattle.forec_check.specs.Declarations.{last_of, blank}
+use Rattle.forec_check.specs.Declarations.{last_of, blank_declaration}
 use Rattle.forec_check.specs.Views.{array_of_seen}
 use Rattle.forec_check.proofs.DeclarationLaws.{whole, not_found, found_at, last_bound}
 use Rattle.forec_check.proofs.scopes.scope.Scope.array_of.Goals as goal
@@ -40,8 +40,8 @@ returns c =
     let t = c.if-last-self.false in
     let r = last_bound c.args.id 0 0 es (omega arith) in
     let n : c.last-last.result - 1 ≡ last_of c.args.id es - 1 = omega (arith, e) in
-    let at : c.index-declaration.result.now ≡ get_or es (last_of c.args.id es - 1) blank =
-    c.index-declaration.ensures ∙ ap (λ k. get_or es k c.index-declaration.result.now) n ∙ any_default es (last_of c.args.id es - 1) c.index-declaration.result.now blank (omega (arith, e, t, r)) in
+    let at : c.index-declaration.result.now ≡ get_or es (last_of c.args.id es - 1) blank_declaration =
+    c.index-declaration.ensures ∙ ap (λ k. get_or es k c.index-declaration.result.now) n ∙ any_default es (last_of c.args.id es - 1) c.index-declaration.result.now blank_declaration (omega (arith, e, t, r)) in
     ap (λ x. Some x.array) at
     ∙ sym (ap (λ l. array_of_seen (find_last c.args.id None l)) (whole s.base s.start es s.based)
     ∙ ap array_of_seen (found_at c.args.id s.base es (omega (arith, b, w)) (omega (arith, e, t))))

@@ -1,7 +1,7 @@
 use Rattle.std.proofs.Common.{◌≡◌, ◌∙◌, sym, ap, refl, map}
 use Rattle.forec_tree.specs.Plain as plain
 use Rattle.forec_tree.specs.Terms.{Statement}
-use Rattle.forec_tree.specs.Scopes.{entered, after, after_perhaps, with_locals}
+use Rattle.forec_tree.specs.Scopes.{inner_scope, after, after_perhaps, with_locals}
 use Rattle.forec_tree.specs.Findings.{in_statement}
 use Rattle.forec_tree.proofs.Rows.{of_kind, of_group, of_abort, of_if, of_for, of_par}
 use Rattle.forec_tree.specs.Plain.{perhaps_of}
@@ -77,7 +77,7 @@ optional_scoped_statement-returns-in-None-clause-notes t c =
     let text = text_in c.args.self.now in
     let s = scope_of c.args.scope.now in
     let k = notes_of c.args.notes.now in
-    no_statement j text (entered s) k c.args.s.now c.in-None.is
+    no_statement j text (inner_scope s) k c.args.s.now c.in-None.is
 
 pub optional_statement-returns-in-None-clause-notes : goal.optional_statement-returns-in-None-clause-notes
 optional_statement-returns-in-None-clause-notes t c =
@@ -131,9 +131,9 @@ statement-returns-in_ok-optional_scoped_statement-in-If-clause-notes t c =
     let s = scope_of c.args.scope.now in
     let k = notes_of c.args.notes.now in
     three j _ _ _ k (notes_of c.expression-in-If.new.notes) (notes_of c.scoped_statement.new.notes) (notes_of c.optional_scoped_statement.new.notes) c.in_ok-expression-in-If.ensures
-    (body_in j text (entered s) (entered s) _ _ _ _ refl c.deref.ensures c.in_ok-scoped_statement-in-If.ensures.notes)
-    (perhaps_in j text (entered s) (entered (scope_of c.scoped_statement.new.scope)) _ _ (perhaps_of c.in-If.no)
-    (ap entered (same_scope c.args.scope.now c.scoped_statement.new.scope c.in_ok-scoped_statement-in-If.ensures.same)) c.in_ok-optional_scoped_statement-in-If.ensures.notes)
+    (body_in j text (inner_scope s) (inner_scope s) _ _ _ _ refl c.deref.ensures c.in_ok-scoped_statement-in-If.ensures.notes)
+    (perhaps_in j text (inner_scope s) (inner_scope (scope_of c.scoped_statement.new.scope)) _ _ (perhaps_of c.in-If.no)
+    (ap inner_scope (same_scope c.args.scope.now c.scoped_statement.new.scope c.in_ok-scoped_statement-in-If.ensures.same)) c.in_ok-optional_scoped_statement-in-If.ensures.notes)
     ∙ of_if (λ x. walked j (in_statement text s x) k) c.args.s.now c.in-If.test c.in-If.yes c.in-If.no c.in-If.is
 
 pub statement-returns-in_ok-scoped_statement-in-While-clause-notes : goal.statement-returns-in_ok-scoped_statement-in-While-clause-notes
@@ -145,7 +145,7 @@ statement-returns-in_ok-scoped_statement-in-While-clause-notes t c =
     of_statement j text s k _ c.args.s.now _ c.in-While.is
     (while_is j text s k (notes_of c.bound.new.notes) (notes_of c.expression-in-While.new.notes) (notes_of c.scoped_statement-in-While.new.notes) _ c.in-While.bound _ _
     c.bound.ensures c.in_ok-expression-in-While.ensures
-    (body_in j text (entered s) (entered s) _ _ _ _ refl c.deref-in-While.ensures c.in_ok-scoped_statement-in-While.ensures.notes))
+    (body_in j text (inner_scope s) (inner_scope s) _ _ _ _ refl c.deref-in-While.ensures c.in_ok-scoped_statement-in-While.ensures.notes))
 
 pub statement-returns-in_ok-scoped_statement-in-For-clause-notes : goal.statement-returns-in_ok-scoped_statement-in-For-clause-notes
 statement-returns-in_ok-scoped_statement-in-For-clause-notes t c =
@@ -160,10 +160,10 @@ statement-returns-in_ok-scoped_statement-in-For-clause-notes t c =
     for_is j text s k (notes_of c.bound-in-For.new.notes) (notes_of c.optional_statement.new.notes) (notes_of c.optional_expression.new.notes)
     (notes_of c.optional_statement-in-For.new.notes) (notes_of c.scoped_statement-in-For.new.notes) _ c.in-For.bound _ _ _ _
     c.bound-in-For.ensures
-    (perhaps_in j text (entered s) _ _ _ (perhaps_of c.in-For.start) s1 c.in_ok-optional_statement-in-For.ensures.notes)
+    (perhaps_in j text (inner_scope s) _ _ _ (perhaps_of c.in-For.start) s1 c.in_ok-optional_statement-in-For.ensures.notes)
     (optional_in j text _ _ _ _ (plain.optional_term c.in-For.test) s2 c.in_ok-optional_expression-in-For.ensures)
     (perhaps_in j text _ _ _ _ (perhaps_of c.in-For.step) s2 c.in_ok-optional_statement-in-For-2.ensures.notes)
-    (body_in j text _ _ _ _ _ _ (ap entered s3) c.deref-in-For.ensures c.in_ok-scoped_statement-in-For.ensures.notes)
+    (body_in j text _ _ _ _ _ _ (ap inner_scope s3) c.deref-in-For.ensures c.in_ok-scoped_statement-in-For.ensures.notes)
     ∙ of_for F c.args.s.now c.in-For.start c.in-For.step c.in-For.test c.in-For.bound c.in-For.body c.in-For.is
 
 pub statement-returns-in_ok-branches-in-Par-clause-notes : goal.statement-returns-in_ok-branches-in-Par-clause-notes
