@@ -5,9 +5,9 @@ Usage: rename.py TREE [--map=FILE] [--dry] [--verbose]
 
 The map, renames.txt beside this, has a line `CRATE MODULE OLD NEW` for each definition; what follows a `#` is a comment. A definition is
 renamed where it stands, inside its module, and in each file that imports it from there: in braces, with `as`, by a whole module or by its
-whole path. Local variables, fields, constructors, clause names and Rust items of the same spelling stay. A renaming is done wholly or not
-at all: where the new name is in scope or defined elsewhere it is refused, with the places. Run again, it changes what has come since, and
-nothing else. It ends with status 1 where something was refused.
+whole path, which attributes write with `::`. Local variables, fields, constructors, clause names and Rust items of the same spelling stay.
+A renaming is done wholly or not at all: where the new name is in scope or defined elsewhere it is refused, with the places. Run again, it
+changes what has come since, and nothing else. It ends with status 1 where something was refused.
 """
 import bisect
 import collections
@@ -458,6 +458,23 @@ def plan_elsewhere(r, file, targets):
                     edit(r, file, t, path[:-len(r.old)] + r.new + t.text[len(path):])
 
 
+def attributes(tree, renamings, paths):
+    """In attributes of functions: `crate::specs::MODULE::OLD`, or with the name of another crate before it."""
+    by_whole = {f"{r.crate}::specs::{r.module.replace('.', '::')}::{r.old}": r for r in renamings}
+    for path in paths:
+        if not path.endswith(".rt"):
+            continue
+        with open(path, "rb") as file:
+            text = file.read()
+        own = os.path.relpath(path, tree).split(os.sep)[1]
+        for found in re.finditer(rb"\b\w+::specs::[\w:]+", text) if b"::specs::" in text else ():
+            whole = found[0].decode()
+            r = by_whole.get(own + whole[5:] if whole.startswith("crate::") else whole)
+            if r:
+                r.edits[path][(found.end() - len(r.old.encode()), found.end())] = r.new
+                r.places += 1
+
+
 def pages(tree, done):
     """In pages and comments: `OLD`, .. in `crates/CRATE/specs/MODULE.antt`."""
     changed = []
@@ -537,6 +554,7 @@ def plan(tree, renamings):
             file = File(path, tree, tokens.pop(path))
             for r in wanted[path]:
                 plan_elsewhere(r, file, targets_of(r, passed))
+    attributes(tree, renamings, paths)
 
 
 def main():

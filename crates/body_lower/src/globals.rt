@@ -213,7 +213,8 @@ impl<'p> Globals<'p> {
 
     /// What the first item of a name stands for.
     pub fn stands(&self, id: u32) -> Stands
-        ensures { result ≡ bindings.item_stands (indexed_text self.now.index) (find_item id (indexed_text self.now.index)) }
+        ensures { result
+            ≡ bindings.item_stands (indexed_text self.now.index) (find_item id (indexed_text self.now.index)) }
     {
         match self.index.find(id) {
             Some(Item::Global { global }) => global_stands(self.counts(global.name.id), global),

@@ -97,7 +97,8 @@ fn operation(
 #[cycle(expr)]
 #[tactic(auto, unfolding(crate::specs::Reading::prefix))]
 fn prefix(alloc: Global, tokens: &mut Tokens<'_>, depth: usize) -> Result<Box<Expr>, Fault>
-    ensures read { Reads term_in (spec.prefix max_level (spec.read_expression max_level depth) tokens.old) result tokens.new }
+    ensures read { Reads term_in (spec.prefix max_level (spec.read_expression max_level depth) tokens.old)
+        result tokens.new }
     ensures stands { IfErr result (λ e. RefusesAt e tokens.new) }
 {
     match start_of(tokens.kind()) {
@@ -119,7 +120,8 @@ fn prefix(alloc: Global, tokens: &mut Tokens<'_>, depth: usize) -> Result<Box<Ex
 #[cycle(expr)]
 #[tactic(auto, unfolding(crate::specs::Reading::named_term))]
 fn named(alloc: Global, tokens: &mut Tokens<'_>, depth: usize) -> Result<Box<Expr>, Fault>
-    ensures read { Reads term_in (spec.named_term max_level (spec.read_expression max_level depth) tokens.old) result tokens.new }
+    ensures read { Reads term_in (spec.named_term max_level (spec.read_expression max_level depth) tokens.old)
+        result tokens.new }
     ensures stands { IfErr result (λ e. RefusesAt e tokens.new) }
 {
     let name = tokens.name()?;
@@ -140,7 +142,8 @@ fn named(alloc: Global, tokens: &mut Tokens<'_>, depth: usize) -> Result<Box<Exp
 #[cycle(expr)]
 #[tactic(auto, unfolding(crate::specs::Reading::bracketed))]
 pub fn bracketed(alloc: Global, tokens: &mut Tokens<'_>, depth: usize) -> Result<Box<Expr>, Fault>
-    ensures read { Reads term_in (spec.bracketed max_level (spec.read_expression max_level depth) tokens.old) result tokens.new }
+    ensures read { Reads term_in (spec.bracketed max_level (spec.read_expression max_level depth) tokens.old)
+        result tokens.new }
     ensures stands { IfErr result (λ e. RefusesAt e tokens.new) }
 {
     let outer = tokens.level();
@@ -155,7 +158,8 @@ pub fn bracketed(alloc: Global, tokens: &mut Tokens<'_>, depth: usize) -> Result
 #[cycle(expr)]
 #[tactic(auto, unfolding(crate::specs::Reading::indexed))]
 pub fn indexed(alloc: Global, tokens: &mut Tokens<'_>, depth: usize) -> Result<Box<Expr>, Fault>
-    ensures read { Reads term_in (spec.indexed max_level (spec.read_expression max_level depth) tokens.old) result tokens.new }
+    ensures read { Reads term_in (spec.indexed max_level (spec.read_expression max_level depth) tokens.old)
+        result tokens.new }
     ensures stands { IfErr result (λ e. RefusesAt e tokens.new) }
 {
     let outer = tokens.level();
@@ -170,7 +174,8 @@ pub fn indexed(alloc: Global, tokens: &mut Tokens<'_>, depth: usize) -> Result<B
 #[cycle(expr)]
 #[tactic(auto, unfolding(crate::specs::Reading::passed, crate::specs::Reading::read_arguments))]
 pub fn passed(alloc: Global, tokens: &mut Tokens<'_>, depth: usize) -> Result<Items<Expr>, Fault>
-    ensures read { Reads (map term) (spec.passed max_level (spec.read_expression max_level depth) tokens.old) result tokens.new }
+    ensures read { Reads (map term) (spec.passed max_level (spec.read_expression max_level depth) tokens.old)
+        result tokens.new }
     ensures stands { IfErr result (λ e. RefusesAt e tokens.new) }
 {
     let outer = tokens.level();
@@ -215,7 +220,8 @@ pub fn values(alloc: Global, tokens: &mut Tokens<'_>, depth: usize) -> Result<It
 #[cycle(expr)]
 #[tactic(auto, unfolding(crate::specs::Reading::value))]
 pub fn value(alloc: Global, tokens: &mut Tokens<'_>, depth: usize) -> Result<Box<Expr>, Fault>
-    ensures read { Reads term_in (spec.value max_level (spec.read_expression max_level depth) tokens.old) result tokens.new }
+    ensures read { Reads term_in (spec.value max_level (spec.read_expression max_level depth) tokens.old)
+        result tokens.new }
     ensures stands { IfErr result (λ e. RefusesAt e tokens.new) }
 {
     let outer = tokens.level();

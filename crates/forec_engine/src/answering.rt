@@ -99,7 +99,8 @@ fn place_and_start<S: Source, K: Sink, G: Gate + Sync, R: Threads + Wait + Sync>
     requires runs { IsRunnable (plain_running running) }
     requires units { budget_for (plain_kernel accepted.now.kernel) (plain_running running).budget ≡ Some units }
     requires small { units ≤ MAX_BUDGET }
-    ensures { AnswersAccepted S.left S.faults S.down K.held K.faults K.down (run_with telling (plain_running running.entry))
+    ensures { AnswersAccepted S.left S.faults S.down K.held K.faults K.down
+        (run_with telling (plain_running running.entry))
         accepted.now.counts
         (plain_kernel accepted.now.kernel) trace.old trace.new out.old out.new result }
 {
@@ -122,7 +123,8 @@ fn start<S: Source, K: Sink, G: Gate + Sync, R: Threads + Wait + Sync>(
     out: &mut K,
 ) -> Status
     requires { IsRunnable (plain_running running) }
-    ensures { AnswersAccepted S.left S.faults S.down K.held K.faults K.down (run_with telling (plain_running running.entry))
+    ensures { AnswersAccepted S.left S.faults S.down K.held K.faults K.down
+        (run_with telling (plain_running running.entry))
         accepted.now.counts
         (plain_kernel accepted.now.kernel) trace.old trace.new out.old out.new result }
 {
@@ -183,8 +185,8 @@ fn list_placed<K: Sink>(
     out: &mut K,
 ) -> Status
     requires { length placement.now.places ≡ length (plain_kernel kernel.now).threads }
-    ensures { PrintsReport K.held K.faults K.down (threads_listed (plain_kernel kernel.now) placement.now.places) ⊥ out.old
-        out.new result }
+    ensures { PrintsReport K.held K.faults K.down (threads_listed (plain_kernel kernel.now) placement.now.places)
+        ⊥ out.old out.new result }
 {
     let Ok(text) = thread_list(alloc, kernel, placement) else {
         return Status::NoMemory;
@@ -236,7 +238,8 @@ pub fn answer<S: Source, K: Sink, G: Gate + Sync, R: Threads + Wait + Sync>(
     out: &mut K,
 ) -> Status
     requires { IsInRange (plain_command command) }
-    ensures { AnswersAccepted S.left S.faults S.down K.held K.faults K.down (plain_command command.entry) accepted.now.counts
+    ensures { AnswersAccepted S.left S.faults S.down K.held K.faults K.down (plain_command command.entry)
+        accepted.now.counts
         (plain_kernel accepted.now.kernel) trace.old trace.new out.old out.new result }
 {
     let alloc = setting.alloc;

@@ -75,7 +75,8 @@ pub fn whole_status(
 ) -> Result<Status, OutOfMemory>
     requires { length long.now ≡ length reports.now }
     ensures { IfOk result (λ s. (ss : List Status)
-        → map (λ r. r.status) (told_all long.now (map plain_report reports.now)) ≡ map status_number ss → s ≡ worst ss) }
+        → map (λ r. r.status) (told_all long.now (map plain_report reports.now)) ≡ map status_number ss
+        → s ≡ worst ss) }
 {
     let numbers = numbers(alloc, reports, long)?;
     match greatest(rt, &numbers) {

@@ -43,7 +43,8 @@ pub fn answer_folded<S: Source, K: Sink, G: Gate + Sync, R: Threads + Wait + Syn
     out: &mut K,
 ) -> Status
     requires { IsInRange (plain_command command) }
-    ensures { AnswersAccepted S.left S.faults S.down K.held K.faults K.down (plain_command command.entry) accepted.counts
+    ensures { AnswersAccepted S.left S.faults S.down K.held K.faults K.down (plain_command command.entry)
+        accepted.counts
         (kernel_for is_folded (plain_kernel accepted.kernel)) trace.old trace.new out.old out.new result }
 {
     match as_asked(setting.alloc, accepted, is_folded) {

@@ -84,7 +84,8 @@ fn declared_list(
     tokens: &mut Tokens<'_>,
     declarator: Declarator,
 ) -> Result<Items<Item>, Fault>
-    ensures { Reads (map plain_item) (separated (spec.declared_item max_level declarator) tokens.old) result tokens.new }
+    ensures { Reads (map plain_item) (separated (spec.declared_item max_level declarator) tokens.old)
+        result tokens.new }
 {
     let mut found = Items::new(alloc);
     for _turn in 0..tokens.left() {

@@ -32,7 +32,8 @@ pub fn stmt(alloc: Global, tokens: &mut Tokens<'_>, depth: usize) -> Result<Stmt
 #[cycle(stmt)]
 #[tactic(auto, unfolding(crate::specs::Statements::one_statement, crate::specs::Statements::group))]
 fn one(alloc: Global, tokens: &mut Tokens<'_>, depth: usize) -> Result<Stmt, Fault>
-    ensures { Reads statement (spec.one_statement max_level (spec.read_statement max_level depth) tokens.old) result tokens.new }
+    ensures { Reads statement (spec.one_statement max_level (spec.read_statement max_level depth) tokens.old)
+        result tokens.new }
 {
     match sort_of(tokens.kind()) {
         Sort::Empty => {
@@ -73,7 +74,8 @@ fn nested(alloc: Global, tokens: &mut Tokens<'_>, depth: usize) -> Result<Box<St
 #[cycle(stmt)]
 #[tactic(auto, unfolding(crate::specs::Statements::body, crate::specs::Statements::body_from))]
 fn body(alloc: Global, tokens: &mut Tokens<'_>, depth: usize) -> Result<Items<Stmt>, Fault>
-    ensures { Reads (map statement) (spec.body max_level (spec.read_statement max_level depth) tokens.old) result tokens.new }
+    ensures { Reads (map statement) (spec.body max_level (spec.read_statement max_level depth) tokens.old)
+        result tokens.new }
 {
     let mut found = Items::new(alloc);
     for _turn in 0..tokens.left() {
@@ -92,7 +94,8 @@ fn body(alloc: Global, tokens: &mut Tokens<'_>, depth: usize) -> Result<Items<St
 #[cycle(stmt)]
 #[tactic(auto, unfolding(crate::specs::Statements::block))]
 pub fn block(alloc: Global, tokens: &mut Tokens<'_>, depth: usize) -> Result<Block, Fault>
-    ensures { Reads block_statements (spec.block max_level (spec.read_statement max_level depth) tokens.old) result tokens.new }
+    ensures { Reads block_statements (spec.block max_level (spec.read_statement max_level depth) tokens.old)
+        result tokens.new }
 {
     let outer = tokens.level();
     let token = tokens.enter(Fixed::LeftCurly)?;
@@ -108,7 +111,8 @@ pub fn block(alloc: Global, tokens: &mut Tokens<'_>, depth: usize) -> Result<Blo
 #[cycle(stmt)]
 #[tactic(auto, unfolding(crate::specs::Statements::if_statement))]
 fn if_statement(alloc: Global, tokens: &mut Tokens<'_>, depth: usize) -> Result<Stmt, Fault>
-    ensures { Reads statement (spec.if_statement max_level (spec.read_statement max_level depth) tokens.old) result tokens.new }
+    ensures { Reads statement (spec.if_statement max_level (spec.read_statement max_level depth) tokens.old)
+        result tokens.new }
 {
     let outer = tokens.level();
     let token = tokens.enter(Fixed::If)?;
@@ -158,7 +162,8 @@ fn while_statement(alloc: Global, tokens: &mut Tokens<'_>, depth: usize) -> Resu
 #[cycle(stmt)]
 #[tactic(auto, unfolding(crate::specs::Statements::for_statement))]
 fn for_statement(alloc: Global, tokens: &mut Tokens<'_>, depth: usize) -> Result<Stmt, Fault>
-    ensures { Reads statement (spec.for_statement max_level (spec.read_statement max_level depth) tokens.old) result tokens.new }
+    ensures { Reads statement (spec.for_statement max_level (spec.read_statement max_level depth) tokens.old)
+        result tokens.new }
 {
     let outer = tokens.level();
     let token = tokens.enter(Fixed::For)?;
@@ -172,7 +177,8 @@ fn for_statement(alloc: Global, tokens: &mut Tokens<'_>, depth: usize) -> Result
 #[cycle(stmt)]
 #[tactic(auto, unfolding(crate::specs::Statements::launch))]
 fn launch(alloc: Global, tokens: &mut Tokens<'_>, depth: usize) -> Result<Branch, Fault>
-    ensures { Reads launch_of (spec.launch max_level (spec.read_statement max_level depth) tokens.old) result tokens.new }
+    ensures { Reads launch_of (spec.launch max_level (spec.read_statement max_level depth) tokens.old)
+        result tokens.new }
 {
     if tokens.next_is(Fixed::LeftCurly) {
         let block = block(alloc, tokens, depth)?;
@@ -185,7 +191,8 @@ fn launch(alloc: Global, tokens: &mut Tokens<'_>, depth: usize) -> Result<Branch
 #[cycle(stmt)]
 #[tactic(auto, unfolding(crate::specs::Statements::launches, expr_parser::specs::Reading::separated, expr_parser::specs::Reading::separated_from))]
 fn launches(alloc: Global, tokens: &mut Tokens<'_>, depth: usize) -> Result<Items<Branch>, Fault>
-    ensures { Reads (map launch_of) (spec.launches max_level (spec.read_statement max_level depth) tokens.old) result tokens.new }
+    ensures { Reads (map launch_of) (spec.launches max_level (spec.read_statement max_level depth) tokens.old)
+        result tokens.new }
 {
     let mut found = Items::new(alloc);
     for _turn in 0..tokens.left() {
@@ -201,7 +208,8 @@ fn launches(alloc: Global, tokens: &mut Tokens<'_>, depth: usize) -> Result<Item
 #[cycle(stmt)]
 #[tactic(auto, unfolding(crate::specs::Statements::par_statement))]
 fn par_statement(alloc: Global, tokens: &mut Tokens<'_>, depth: usize) -> Result<Stmt, Fault>
-    ensures { Reads statement (spec.par_statement max_level (spec.read_statement max_level depth) tokens.old) result tokens.new }
+    ensures { Reads statement (spec.par_statement max_level (spec.read_statement max_level depth) tokens.old)
+        result tokens.new }
 {
     let token = tokens.close(Fixed::Par)?;
     let outer = tokens.level();

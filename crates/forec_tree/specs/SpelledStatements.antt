@@ -107,7 +107,7 @@ pub data Optional (w : Word) : Bool → ℕ → List Spelt → Type 0 where
   there : {v : ℕ} {t : Token} → IsWord w t → Optional w true v (at t v ∷ [])
   missing : {v : ℕ} → Optional w false v []
 
--- `Says x o v u ls`: the tokens of ls spell the statement x. The level is v before them, and u after the last one, which depends on
+-- `SpellsStatement x o v u ls`: the tokens of ls spell the statement x. The level is v before them, and u after the last one, which depends on
 -- what the statement stands in. o tells whether it ends in an `if` without `else`, which an `else` after it would belong to.
 -- `if`, `else`, `while`, `for` and `abort` raise the level up to the end of their statement.
 mutual

@@ -55,7 +55,8 @@ pub fn foresee(
     requires threads { threads ≡ min (limits.amount quantity.Threads (kernel_of (indexed_text index.now) names.now)) (2 ^ 64 - 1) }
     requires few { threads ≤ limits.limit_of quantity.Threads }
     ensures words { OnOk result (limits.widest (kernel_of (indexed_text index.now) names.now).shape.threads ≤ limits.limit_of quantity.Words) }
-    ensures levels { IfOk result (λ n. n ≤ limits.amount quantity.Depth (kernel_of (indexed_text index.now) names.now)) }
+    ensures levels { IfOk result
+        (λ n. n ≤ limits.amount quantity.Depth (kernel_of (indexed_text index.now) names.now)) }
     ensures fault { IfErr result (λ e. HasLowerCause e (indexed_text index.now) names.now) }
 {
     let table = spans(alloc, index)?;

@@ -105,7 +105,8 @@ fn put(uses: &[u32], t: &mut Thread<'_>, variable: usize, value: i32)
 
 /// A number goes to a word, or marked to a copy.
 fn set(uses: &[u32], t: &mut Thread<'_>, to: Spot, value: i32)
-    ensures { (u : ℕ) → plain_running_thread t.new ≡ after_focus t.old (leads (origin_of uses.now t.old) (Sets to value) u) }
+    ensures { (u : ℕ)
+        → plain_running_thread t.new ≡ after_focus t.old (leads (origin_of uses.now t.old) (Sets to value) u) }
 {
     match to {
         Spot::Local { slot } => {
@@ -239,7 +240,8 @@ pub(crate) fn thread_step<'k>(
     left: &mut u64,
 ) -> Result<(), Halt>
     ensures { IsThread left.old left.new (plain_running_thread t.new) result
-        (after_move (plain_running_thread t.old) (thread_move (plain_kernel kernel.now) path.now (plain_running_thread t.old))) }
+        (after_move (plain_running_thread t.old)
+        (thread_move (plain_kernel kernel.now) path.now (plain_running_thread t.old))) }
 {
     if runs_below(&t.focus) {
         return fork_step(alloc, kernel, path, &mut t.focus, left);

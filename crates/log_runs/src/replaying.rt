@@ -100,8 +100,8 @@ fn put_difference(waiting: &mut Waiting, at: Difference)
 
 /// Writes what waits, and then the line of a difference.
 fn say_difference<K: Sink>(waiting: &mut Waiting, at: Difference, out: &mut K) -> Status
-    ensures says { PrintsReport K.held K.faults K.down (differing waiting.old.bytes.items at.thread at.number) (Status.Refused
-        ≡ Status.Usage)
+    ensures says { PrintsReport K.held K.faults K.down (differing waiting.old.bytes.items at.thread at.number)
+        (Status.Refused ≡ Status.Usage)
         out.old out.new result }
     ensures memory { result ≢ Status.NoMemory }
 {

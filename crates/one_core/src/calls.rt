@@ -75,7 +75,8 @@ impl<'c> Calls<'c> {
         requires fitted { HasAllSeats self.old }
         requires fork { IsLoadedFork (seated_code self.old) thread.old }
         requires jobs { (book : Book) × CanTell self.old thread.old book }
-        ensures called { HasSettledReplies self.old self.new thread.old thread.new (length thread.old.branches.numbers) }
+        ensures called { HasSettledReplies self.old self.new thread.old thread.new
+            (length thread.old.branches.numbers) }
         ensures loaded { Loaded (seated_code self.new) thread.new }
         ensures number { thread.new.number ≡ thread.old.number }
         ensures branches { thread.new.branches.numbers ≡ thread.old.branches.numbers }
@@ -118,7 +119,8 @@ impl<'c> Calls<'c> {
         requires fitted { HasAllSeats self.old }
         requires loaded { Loaded (seated_code self.old) thread.old }
         requires fork { HasSettled thread.old 0 }
-        requires branches { thread.old.branches.numbers ≡ map (λ w. w.branch) (jobs_at (seated_code self.old) thread.old) }
+        requires branches { thread.old.branches.numbers
+            ≡ map (λ w. w.branch) (jobs_at (seated_code self.old) thread.old) }
         requires begun { HasBegun self.old thread.old }
         ensures loaded { Loaded (seated_code self.old) thread.new }
         ensures number { thread.new.number ≡ thread.old.number }

@@ -85,7 +85,8 @@ impl<'c> OneCore<'c> {
         outputs: &mut [i32],
     ) -> Outcome
         requires can { CanTick (single_ticking self.old) row.now budget outputs.old }
-        ensures runs { RunsTick (single_ticking self.old) (single_ticking self.new) row.now budget result outputs.old outputs.new }
+        ensures runs { RunsTick (single_ticking self.old) (single_ticking self.new) row.now budget
+            result outputs.old outputs.new }
     {
         let OneCore { calls, root, live } = self;
         let code = calls.code;

@@ -241,7 +241,8 @@ pub(crate) fn call_function(
     args: &[i32],
     left: &mut u64,
 ) -> Result<i32, Halt>
-    ensures { IsMetered value_kind left.old left.new result (call_within (plain_kernel kernel.now) deep function args.now) }
+    ensures { IsMetered value_kind left.old left.new result
+        (call_within (plain_kernel kernel.now) deep function args.now) }
 {
     if deep == 0 {
         return Ok(0);

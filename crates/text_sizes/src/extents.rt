@@ -214,7 +214,8 @@ fn function_extent(index: &Index<'_>, table: &[Extent], id: u32) -> Extent
 
 /// The extent of each function, each after those that it calls or starts.
 fn table_of(alloc: Global, index: &Index<'_>, order: &[u32]) -> Result<Vec<Extent>, OutOfMemory>
-    requires { Settles no_extent (extent_step capped_size (indexed_text index.now)) (extent_value (indexed_text index.now)) order.now }
+    requires { Settles no_extent (extent_step capped_size (indexed_text index.now))
+        (extent_value (indexed_text index.now)) order.now }
     ensures { IfOk result (λ table. (id : ℕ) → extent_at table.items id ≡ extent_value (indexed_text index.now) id) }
 {
     let mut table = Vec::new(alloc);
@@ -257,7 +258,8 @@ pub fn program_terms(
     first: u32,
 ) -> Result<u64, OutOfMemory>
     requires free { (f : ℕ) → Leads (callees_of (indexed_text index.now)) f f → ⊥ }
-    requires functions { functions_of functions.now ≡ int_functions (indexed_text index.now) names.now (indexed_text index.now) }
+    requires functions { functions_of functions.now
+        ≡ int_functions (indexed_text index.now) names.now (indexed_text index.now) }
     requires first { first ≡ main_id (indexed_text index.now) names.now }
     ensures { IfOk result (λ n. n ≡ min (amount Terms (kernel_of (indexed_text index.now) names.now)) (2 ^ 64 - 1)) }
 {

@@ -20,7 +20,8 @@ pub struct Counts {
 
 /// Counts a program that has not too many threads, in time linear in its text.
 pub fn count(alloc: Global, checked: &Checked<'_>) -> Result<Counts, OutOfMemory>
-    requires { instances (checked_text checked.now) (main_number (names_of checked.now) (checked_text checked.now)) ≤ MAX_THREADS }
+    requires { instances (checked_text checked.now) (main_number (names_of checked.now) (checked_text checked.now))
+        ≤ MAX_THREADS }
     ensures { IfOk result (λ c. c ≡ counts_of (checked_text checked.now) (names_of checked.now)) }
 {
     let threads = checked.threads(alloc)?;

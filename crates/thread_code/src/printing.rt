@@ -81,7 +81,8 @@ fn write_two_at<W: fmt::Write>(
     second: u32,
     at: Place,
 ) -> fmt::Result
-    ensures { DisplaysOnOk W.write_str_gives f.old result (Some (trapping (two_operands word.now first second) at)) f.new }
+    ensures { DisplaysOnOk W.write_str_gives f.old result
+        (Some (trapping (two_operands word.now first second) at)) f.new }
 {
     write!(f, "{word} {first} {second} @{}:{}", at.line, at.column)
 }

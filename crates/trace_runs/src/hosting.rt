@@ -176,8 +176,8 @@ pub fn host_workload<K: Sink, G: Gate + Sync, R: Threads + Wait + Sync>(
 ) -> Status
     requires placed { length placement.now.places ≡ length (plain_kernel kernel.now).threads }
     requires small { budget ≤ MAX_BUDGET }
-    ensures { PrintsReport K.held K.faults K.down (ticked_report threads (plain_kernel kernel.now) budget) ⊥ out.old out.new
-        result }
+    ensures { PrintsReport K.held K.faults K.down (ticked_report threads (plain_kernel kernel.now) budget)
+        ⊥ out.old out.new result }
 {
     let Ok(mut session) = Session::new(
         setting.alloc,

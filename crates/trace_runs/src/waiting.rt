@@ -293,8 +293,8 @@ impl Waiting {
     /// Writes all that waits, and gives the status, which is a report's own.
     pub fn finish<K: Sink>(&mut self, out: &mut K, status: Status) -> Status
         requires { IsOwn status }
-        ensures says { PrintsReport K.held K.faults K.down (record { bytes = self.old.bytes.items; status = status }) (status
-            ≡ Status.Usage)
+        ensures says { PrintsReport K.held K.faults K.down (record { bytes = self.old.bytes.items; status = status })
+            (status ≡ Status.Usage)
             out.old out.new result }
         ensures memory { result ≢ Status.NoMemory }
     {

@@ -109,7 +109,8 @@ fn function_access(
     id: u32,
 ) -> Result<AccessCount, OutOfMemory>
     requires { effects_lists bodies.now ≡ map (item_effects (indexed_text index.now)) (indexed_text index.now) }
-    ensures { IfOk result (λ n. capped_access (access_of n) ≡ capped_step (indexed_text index.now) g (called_access table.now) id) }
+    ensures { IfOk result
+        (λ n. capped_access (access_of n) ≡ capped_step (indexed_text index.now) g (called_access table.now) id) }
 {
     let n = text_access(alloc, effects_of(index, bodies, id), g, table)?;
     Ok(n)
