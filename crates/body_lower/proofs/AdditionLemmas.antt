@@ -13,7 +13,7 @@ use Rattle.forec_tree.specs.Plain.{statement, statements, branches, branch_with}
 use Rattle.forec_tree.specs.Terms as tree
 use Rattle.forec_tree.specs.Terms.{Text, Term, Terms, count_terms, Declared, PlainTarget, Statement, Statements, no_statements, more_statements, Perhaps, absent, present, Branches, no_branches, by_call, by_group, PlainFunction}
 use Rattle.forec_tree.specs.Pauses.{within, find_function}
-use Rattle.loop_check.specs.Numbered.{put_at}
+use Rattle.loop_check.specs.Numbered.{put_entry}
 use Rattle.loop_check.proofs.IndexLemmas.{split}
 use Rattle.text_kernel.specs.Bindings.{params_at}
 use Rattle.text_kernel.specs.Lowering.{NextNumbers, Lowered, Started, from_slot, scope_after, scope_after_perhaps, par_after, inlined_body, lower_statement, lower_list, lower_perhaps, lower_branches}
@@ -214,7 +214,7 @@ same_number : (f g : ℕ) → (f == g) ≡ true → f ≡ g
 same_number f g e = grind (arith, nat_tests)
 
 -- what one more function adds
-pub all_put : (text : Text) (f : ℕ) (added : Option Added) (old new : List (Option Added)) → AllAdd text old → ((g : ℕ) → get_or new g None ≡ put_at f g added (get_or old g None)) → FunctionAdds text f added → AllAdd text new
+pub all_put : (text : Text) (f : ℕ) (added : Option Added) (old new : List (Option Added)) → AllAdd text old → ((g : ℕ) → get_or new g None ≡ put_entry f g added (get_or old g None)) → FunctionAdds text f added → AllAdd text new
 all_put text f added old new a p h =
     λ g.
     subst (FunctionAdds text g) (sym (p g))

@@ -24,7 +24,7 @@ use Rattle.text_kernel.specs.Lowering.{NextNumbers, Lowered, Inlined, scope_afte
 use Rattle.body_lower.specs.declared.landing.Landing.{Landing}
 use Rattle.body_lower.specs.declared.state.State.{State}
 use Rattle.body_lower.specs.Landings.{only, only_in_group, SameKernel, called_within, FunctionLands, AllLand, CallLands}
-use Rattle.loop_check.specs.Numbered.{put_at}
+use Rattle.loop_check.specs.Numbered.{put_entry}
 use Rattle.loop_check.proofs.IndexLemmas.{split}
 use Rattle.body_lower.specs.Views.{seen, Same, next_of, threads_of, bare, Does}
 use Rattle.body_lower.proofs.Doing.{does_as, threads_two, same_seen}
@@ -227,7 +227,7 @@ same_number : (f g : ℕ) → (f == g) ≡ true → f ≡ g
 same_number f g e = grind (arith, nat_tests)
 
 -- where one more function lands
-pub all_put : (text : Text) (f : ℕ) (landing : Option Landing) (old new : List (Option Landing)) → AllLand text old → ((g : ℕ) → get_or new g None ≡ put_at f g landing (get_or old g None)) → FunctionLands text f landing → AllLand text new
+pub all_put : (text : Text) (f : ℕ) (landing : Option Landing) (old new : List (Option Landing)) → AllLand text old → ((g : ℕ) → get_or new g None ≡ put_entry f g landing (get_or old g None)) → FunctionLands text f landing → AllLand text new
 all_put text f landing old new a p h =
     λ g.
     subst (FunctionLands text g) (sym (p g))

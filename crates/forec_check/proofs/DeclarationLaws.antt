@@ -9,7 +9,7 @@ use Rattle.forec_tree.specs.declared.uses.Seen.{Seen}
 use Rattle.forec_tree.specs.Scopes.{find_last, is_among}
 use Rattle.forec_check.specs.declared.scopes.declaration.Declaration.{Declaration}
 use Rattle.forec_check.specs.Declarations.{blank_declaration, seen_name, last_from, last_of, AreDeclarationsChained, pushed_declaration}
-use Rattle.loop_check.specs.Numbered.{put_at}
+use Rattle.loop_check.specs.Numbered.{put_entry}
 use Rattle.loop_check.proofs.IndexLemmas.{split}
 
 pub last_append : (id at f : ℕ) (xs ys : List Declaration) → last_from id at f (xs ++ ys) ≡ last_from id (at + length xs) (last_from id at f xs) ys
@@ -79,10 +79,10 @@ has_place es e latest h l =
     absurd (omega (arith, q))
 
 pub latest_push : (es : List Declaration) (id : ℕ) (array : Bool) (place : ℕ) (old new : ℕ → ℕ) → place ≡ length es + 1 → ((g : ℕ) → old g ≡ last_of g es) →
-    ((g : ℕ) → new g ≡ put_at id g place (old g)) → (g : ℕ) → new g ≡ last_of g (pushed_declaration es id array)
+    ((g : ℕ) → new g ≡ put_entry id g place (old g)) → (g : ℕ) → new g ≡ last_of g (pushed_declaration es id array)
 latest_push es id array place old new p h n g =
     let e : place ≡ suc (length es) = omega (arith, p) in
-    n g ∙ ap (λ m. put_at id g m (old g)) e ∙ ap (put_at id g (suc (length es))) (h g) ∙ sym (last_snoc g es (record { id = id; array = array; before = last_of id es }))
+    n g ∙ ap (λ m. put_entry id g m (old g)) e ∙ ap (put_entry id g (suc (length es))) (h g) ∙ sym (last_snoc g es (record { id = id; array = array; before = last_of id es }))
 
 -- ---- looking up
 

@@ -23,7 +23,7 @@ use Rattle.loop_check.specs.Graph.{IsOrder}
 use Rattle.loop_check.specs.Known.{Read, is_function}
 use Rattle.loop_check.proofs.Ordered.{is_in_snoc}
 use Rattle.loop_check.proofs.Settled.{all_ordered}
-use Rattle.loop_check.specs.Numbered.{put_at}
+use Rattle.loop_check.specs.Numbered.{put_entry}
 use Rattle.forec_check.proofs.TableLemmas.{settles_by}
 use Rattle.loop_check.proofs.Reading.{leads_same}
 use Rattle.forec_check.specs.declared.walk.effects.Effect.{Effect}
@@ -76,8 +76,8 @@ no_body (u ∷ us) (y ∷ ys) f (suc at) e s = let p : map (λ w. w.items) us �
 
 -- ---- the table
 
-pub put_capped : (f h : ℕ) (v before after : AccessCount) → after ≡ put_at f h v before →
-    capped_access (access_of after) ≡ put_at f h (capped_access (access_of v)) (capped_access (access_of before))
+pub put_capped : (f h : ℕ) (v before after : AccessCount) → after ≡ put_entry f h v before →
+    capped_access (access_of after) ≡ put_entry f h (capped_access (access_of v)) (capped_access (access_of before))
 put_capped f h v before after e =
     ap (λ x. capped_access (access_of x)) e
     ∙ (elim (f == h) as (λ b. capped_access (access_of (cond b v before)) ≡ cond b (capped_access (access_of v)) (capped_access (access_of before))) [ true ↦ refl | false ↦ refl ])

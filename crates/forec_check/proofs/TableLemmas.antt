@@ -10,7 +10,7 @@ use Rattle.forec_tree.specs.Faults.{is_in, Leads}
 use Rattle.forec_tree.proofs.Fixed.{IsLocal}
 use Rattle.loop_check.specs.Graph.{IsOrder}
 use Rattle.loop_check.specs.Known.{Read, started_in}
-use Rattle.loop_check.specs.Numbered.{put_at}
+use Rattle.loop_check.specs.Numbered.{put_entry}
 use Rattle.loop_check.proofs.IndexLemmas.{split}
 use Rattle.loop_check.proofs.Ordered.{is_in_snoc}
 use Rattle.loop_check.proofs.Reading.{leads_same, started_list}
@@ -30,7 +30,7 @@ or_yes false = refl
 
 module _ {A : Type 0} (default : A) (value : ℕ → A) (order : List ℕ) where
   pub agrees_next : (n : ℕ) (table next : ℕ → A) (v : A) → n < length order → Agrees default value order n table → v ≡ value (get_or order n 0) →
-      ((h : ℕ) → next h ≡ put_at (get_or order n 0) h v (table h)) → Agrees default value order (n + 1) next
+      ((h : ℕ) → next h ≡ put_entry (get_or order n 0) h v (table h)) → Agrees default value order (n + 1) next
   agrees_next n table next v h a is put =
       let f = get_or order n 0 in
       let t : take (n + 1) order ≡ take n order ++ f ∷ [] = let e : n + 1 ≡ suc n = omega arith in ap (λ m. take m order) e ∙ take-suc order n 0 h in

@@ -1,7 +1,7 @@
 -- A table of values of functions, filled in an order.
 use Rattle.std.specs.Prelude.{ℕ, ◌<◌, ◌≡◌, true, false, List, length, take, slice_index_or}
 use Rattle.forec_tree.specs.Faults.{is_in}
-pub use Rattle.loop_check.specs.Numbered.{put_at}
+pub use Rattle.loop_check.specs.Numbered.{put_entry}
 
 -- right at the first so many of an order, and the default elsewhere
 pub record Agrees {A : Type 0} (default : A) (value : ℕ → A) (order : List ℕ) (n : ℕ) (table : ℕ → A) : Type 0 where

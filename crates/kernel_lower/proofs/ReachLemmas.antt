@@ -9,7 +9,7 @@ use Rattle.forec_kernel.specs.WellFormed.{greatest, count_up}
 use Rattle.loop_check.specs.Graph.{IsOrder, callees}
 use Rattle.loop_check.proofs.IndexLemmas.{split}
 use Rattle.loop_check.proofs.Ordered.{other_id}
-use Rattle.forec_check.specs.Table.{Settles, put_at}
+use Rattle.forec_check.specs.Table.{Settles, put_entry}
 use Rattle.forec_check.proofs.TableLemmas.{settles_by}
 use Rattle.kernel_lower.specs.Reach.{value_at, chain_step, chain_value}
 
@@ -19,7 +19,7 @@ value_push [] (suc k) = refl
 value_push (x ∷ xs) zero = refl
 value_push (x ∷ xs) (suc k) = value_push xs k
 
-pub value_set : (xs : List ℕ) (id h v : ℕ) → id < length xs → value_at (set xs id v) h ≡ put_at id h v (value_at xs h)
+pub value_set : (xs : List ℕ) (id h v : ℕ) → id < length xs → value_at (set xs id v) h ≡ put_entry id h v (value_at xs h)
 value_set xs id h v l =
     split (id == h)
     (λ e.

@@ -5,7 +5,7 @@ ghost use Rattle.forec_tree.specs.Faults.{is_in, Leads};
 ghost use Rattle.forec_kernel.specs.Plain as kernel;
 ghost use Rattle.forec_kernel.specs.WellFormed as of;
 ghost use Rattle.loop_check.specs.Graph.{callees, FunctionsCall};
-ghost use Rattle.forec_check.specs.Table.{put_at, Settles};
+ghost use Rattle.forec_check.specs.Table.{put_entry, Settles};
 ghost use Rattle.kernel_lower.specs.Reach.{has, users_by, combine_by, pars_by, combine_at, value_at, chain_step, chain_value, list_items};
 
 use crate::pars::pars;
@@ -126,7 +126,7 @@ pub fn greatest(table: &[u64], functions: &[u32]) -> u64
 }
 
 fn put(table: &mut Vec<u64>, id: u32, known: u64) -> Result<(), OutOfMemory>
-    ensures { OnOk result ((h : ℕ) → value_at table.new.items h ≡ put_at id h known (value_at table.old.items h)) }
+    ensures { OnOk result ((h : ℕ) → value_at table.new.items h ≡ put_entry id h known (value_at table.old.items h)) }
 {
     let place = id as usize;
     'room: while table.len() <= place {

@@ -13,7 +13,7 @@ use Rattle.forec_tree.proofs.Agrees.{certain_local}
 use Rattle.loop_check.specs.Graph.{IsOrder, set_at}
 use Rattle.loop_check.proofs.Settled.{settle, out, all_ordered}
 use Rattle.loop_check.specs.Known.{Read, list_at, started_in, is_function, AgreesOnFirst, IsRightTable}
-use Rattle.loop_check.specs.Numbered.{put_at}
+use Rattle.loop_check.specs.Numbered.{put_entry}
 use Rattle.loop_check.proofs.IndexLemmas.{split}
 use Rattle.loop_check.proofs.Ordered.{is_in_snoc}
 
@@ -105,7 +105,7 @@ read_global of xs x functions calls h g r =
     (λ e. ap (λ b. cond b (function_at (Some x)) (find_function id xs)) e)) r
 
 pub read_function : (of : PlainFunction → List ℕ) (xs : Text) (f : PlainFunction) (functions list : List ℕ) (calls next : ℕ → List ℕ) → item_named f.name.id xs ≡ false →
-    list ≡ of f → ((g : ℕ) → next g ≡ put_at f.name.id g list (calls g)) →
+    list ≡ of f → ((g : ℕ) → next g ≡ put_entry f.name.id g list (calls g)) →
     Read of xs functions calls → Read of (xs ++ IsFunction f ∷ []) (functions ++ f.name.id ∷ []) next
 read_function of xs f functions list calls next h e put r =
     record {
@@ -117,7 +117,7 @@ read_function of xs f functions list calls next h e put r =
             | false ↦ or_false (not (is_none (find_function id xs)))
           ]));
       lists = λ id.
-          put id ∙ ap (λ l. put_at f.name.id id l (calls id)) e ∙ ap (put_at f.name.id id (of f)) (r.lists id)
+          put id ∙ ap (λ l. put_entry f.name.id id l (calls id)) e ∙ ap (put_entry f.name.id id (of f)) (r.lists id)
           ∙ sym (ap (list_at of) (found_new id xs (IsFunction f) h)
           ∙ (elim (f.name.id == id) as (λ b. list_at of (cond b (Some f) (find_function id xs)) ≡ cond b (of f) (list_at of (find_function id xs))) [ true ↦ refl | false ↦ refl ]));
       few =

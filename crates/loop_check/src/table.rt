@@ -8,7 +8,7 @@ ghost use Rattle.forec_tree.specs.Pauses as pauses;
 ghost use Rattle.loop_check.specs.Graph.{callees};
 ghost use Rattle.loop_check.specs.Views.{indexed_text};
 ghost use Rattle.loop_check.specs.Known.{known, started_in, FunctionOf, IsListOf, Read, AddsItem, IsRightTable};
-ghost use Rattle.loop_check.specs.Numbered.{put_at};
+ghost use Rattle.loop_check.specs.Numbered.{put_entry};
 
 use crate::graph::{mark, order};
 use crate::index::{Index, item_name};
@@ -30,7 +30,7 @@ pub fn find_function<'p>(index: &Index<'p>, id: u32) -> Option<&'p Function>
 
 /// Puts a list at a number of a table of lists.
 fn put(alloc: Global, calls: &mut Vec<Vec<u32>>, id: u32, list: Vec<u32>) -> Result<(), OutOfMemory>
-    ensures { OnOk result ((g : ℕ) → callees calls.new.items g ≡ put_at id g list.items (callees calls.old.items g)) }
+    ensures { OnOk result ((g : ℕ) → callees calls.new.items g ≡ put_entry id g list.items (callees calls.old.items g)) }
 {
     let at = id as usize;
     'room: while calls.len() <= at {

@@ -11,7 +11,7 @@ use Rattle.loop_check.specs.Known.{Read, started_in, is_function, list_at}
 use Rattle.loop_check.proofs.IndexLemmas.{split}
 use Rattle.loop_check.proofs.Ordered.{other_id}
 use Rattle.loop_check.proofs.Reading.{leads_same}
-use Rattle.forec_check.specs.Table.{Settles, put_at}
+use Rattle.forec_check.specs.Table.{Settles, put_entry}
 use Rattle.forec_check.proofs.TableLemmas.{settles_by}
 use Rattle.text_chains.specs.declared.tally.Tally.{Tally}
 use Rattle.text_chains.specs.Tallies as of
@@ -26,7 +26,7 @@ tally_push [] (suc k) = refl
 tally_push (x ∷ xs) zero = refl
 tally_push (x ∷ xs) (suc k) = tally_push xs k
 
-pub tally_set : (xs : List Tally) (id h : ℕ) (v : Tally) → id < length xs → tally_at (set xs id v) h ≡ put_at id h v (tally_at xs h)
+pub tally_set : (xs : List Tally) (id h : ℕ) (v : Tally) → id < length xs → tally_at (set xs id v) h ≡ put_entry id h v (tally_at xs h)
 tally_set xs id h v l =
     split (id == h)
     (λ e.

@@ -7,7 +7,7 @@ ghost use Rattle.forec_tree.specs.Plain.{plain_global};
 ghost use Rattle.forec_tree.specs.Faults.{Leads};
 ghost use Rattle.forec_tree.specs.Pauses.{callees_of};
 ghost use Rattle.loop_check.specs.Views.{indexed_text};
-ghost use Rattle.forec_check.specs.Table.{put_at, Settles};
+ghost use Rattle.forec_check.specs.Table.{put_entry, Settles};
 ghost use Rattle.forec_check.specs.Faultless.{Faultless};
 ghost use Rattle.text_kernel.specs.Bindings.{number_among, is_int_function};
 ghost use Rattle.text_kernel.specs.Items.{globals_of, variable_items};
@@ -39,7 +39,7 @@ fn function_tally(w: &Weights<'_>, table: &[Tally], id: u32) -> Tally
 }
 
 fn put(table: &mut Vec<Tally>, id: u32, known: Tally) -> Result<(), OutOfMemory>
-    ensures { OnOk result ((h : ℕ) → of.tally_at table.new.items h ≡ put_at id h known (of.tally_at table.old.items h)) }
+    ensures { OnOk result ((h : ℕ) → of.tally_at table.new.items h ≡ put_entry id h known (of.tally_at table.old.items h)) }
 {
     let place = id as usize;
     'room: while table.len() <= place {

@@ -6,7 +6,7 @@ use Rattle.forec_tree.specs.Scopes.{name_of}
 use Rattle.forec_tree.specs.Faults.{item_named}
 use Rattle.loop_check.specs.Graph.{callees}
 use Rattle.loop_check.specs.Known.{Read, IsListOf}
-use Rattle.loop_check.specs.Numbered.{put_at}
+use Rattle.loop_check.specs.Numbered.{put_entry}
 use Rattle.loop_check.specs.Views.{indexed_text}
 use Rattle.loop_check.proofs.Reading.{next_of, read_again, read_global, read_function, function_at}
 use Rattle.loop_check.proofs.table.add_function.Goals as goal
@@ -38,7 +38,7 @@ returns-in_ok-push-in-Function c =
     λ of l r.
     let next = read_function of xs f c.args.calls.now.functions.items c.args.list.items (callees c.args.calls.now.lists.items) (callees c.put.new.calls.items) named
     (subst (λ i. IsListOf of i c.args.list.items) is l)
-    (λ g. c.in_ok-put-in-Function.ensures g ∙ ap (λ n. put_at n g c.args.list.items (callees c.args.calls.now.lists.items g)) id) r in
+    (λ g. c.in_ok-put-in-Function.ensures g ∙ ap (λ n. put_entry n g c.args.list.items (callees c.args.calls.now.lists.items g)) id) r in
     subst (λ ys. Read of ys c.push.new.self.items (callees c.put.new.calls.items))
     (ap (λ i. xs ++ i ∷ []) (sym is) ∙ sym (next_of (indexed_text c.args.index.now) c.args.at x c.requires))
     (subst (λ fs. Read of (xs ++ IsFunction f ∷ []) fs (callees c.put.new.calls.items)) (ap (λ n. c.args.calls.now.functions.items ++ n ∷ []) (sym id) ∙ sym c.in_ok-push-in-Function.ensures.items) next)

@@ -1,5 +1,5 @@
 use Rattle.std.proofs.Common.{ℕ, ◌≡◌, ◌∙◌, ap, subst, get_or}
-use Rattle.loop_check.specs.Numbered.{put_at}
+use Rattle.loop_check.specs.Numbered.{put_entry}
 use Rattle.loop_check.specs.Views.{indexed_text}
 use Rattle.forec_check.proofs.TableLemmas.{agrees_next, none_agree, all_agree}
 use Rattle.text_sizes.specs.Extents.{capped_size}
@@ -18,7 +18,7 @@ loop-f-preserved c =
     let step = c.requires.next k (span_at c.loop-f.table.items) c.loop-f-test.true c.loop-f.invariant in
     agrees_next no_span (span_value text) c.args.order.now k (span_at c.loop-f.table.items) (span_at c.put.new.table.items) c.function_span-known.result c.loop-f-test.true c.loop-f.invariant
     (c.function_span-known.ensures ∙ ap (λ t. span_step capped_size text (span_at t) (get_or c.args.order.now k 0)) c.deref.ensures.value ∙ step)
-    (subst (λ d. (h : ℕ) → get_or c.put.new.table.items h d ≡ put_at (get_or c.args.order.now k 0) h c.function_span-known.result (get_or c.loop-f.table.items h d))
+    (subst (λ d. (h : ℕ) → get_or c.put.new.table.items h d ≡ put_entry (get_or c.args.order.now k 0) h c.function_span-known.result (get_or c.loop-f.table.items h d))
     c.no_span.ensures c.in_ok-put.ensures.ok)
 
 pub returns : goal.returns

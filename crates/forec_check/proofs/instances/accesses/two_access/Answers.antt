@@ -1,6 +1,6 @@
 use Rattle.std.proofs.Common.{◌≡◌, ◌∙◌, ap, subst, get_or}
 use Rattle.forec_check.specs.AccessScan.{no_access}
-use Rattle.loop_check.specs.Numbered.{put_at}
+use Rattle.loop_check.specs.Numbered.{put_entry}
 use Rattle.loop_check.specs.Views.{indexed_text}
 use Rattle.forec_check.specs.AccessCounts.{capped_access, capped_step, no_access_count, called_access, access_of, access_value}
 use Rattle.forec_check.proofs.TableLemmas.{agrees_next, none_agree, all_agree}
@@ -22,7 +22,7 @@ loop-f-preserved c =
     agrees_next no_access value c.args.order.now k (called_access table) (called_access c.put.new.table.items) (capped_access (access_of c.in_ok-value.value)) c.loop-f-test.true c.loop-f.invariant
     (c.in_ok-value.ensures ∙ ap (λ t. capped_step text c.args.g (called_access t) f) c.deref.ensures.value ∙ step)
     (λ h. put_capped f h c.in_ok-value.value (get_or table h no_access_count) (get_or c.put.new.table.items h no_access_count)
-    (subst (λ d. get_or c.put.new.table.items h d ≡ put_at f h c.in_ok-value.value (get_or table h d)) c.no_access_count.ensures (c.in_ok-put.ensures.ok h)))
+    (subst (λ d. get_or c.put.new.table.items h d ≡ put_entry f h c.in_ok-value.value (get_or table h d)) c.no_access_count.ensures (c.in_ok-put.ensures.ok h)))
 
 pub returns : goal.returns
 returns c =
