@@ -57,8 +57,9 @@ pub fn add_function(
     calls: &mut Calls,
 ) -> Result<(), OutOfMemory>
     requires { slice_get (indexed_text index.now) at ≡ Some (plain.plain_item item.now) }
-    ensures { OnOk result (AddsItem (take at (indexed_text index.now)) (take (at + 1) (indexed_text index.now)) (plain.plain_item item.now) list.items
-        calls.old.functions.items calls.new.functions.items (callees calls.old.lists.items) (callees calls.new.lists.items)) }
+    ensures { OnOk result (AddsItem (take at (indexed_text index.now)) (take (at + 1) (indexed_text index.now))
+        (plain.plain_item item.now) list.items calls.old.functions.items calls.new.functions.items
+        (callees calls.old.lists.items) (callees calls.new.lists.items)) }
 {
     let id = item_name(item).id;
     if index.named_before(id, at) {
