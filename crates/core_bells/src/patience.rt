@@ -1,9 +1,9 @@
 //! How often a core looks in vain before it sleeps.
 
-/// The most looks: some fifty microseconds, about as long as a sleep and a wake take where the processors are virtual (who waits
-/// as long as a sleep costs takes at most twice the least time; Karlin et al., "Empirical Studies of Competitive Spinning for a
-/// Shared-Memory Multiprocessor", 1991).
-const MOST: u32 = 1024;
+/// The most looks: some 20 microseconds on processors whose `pause` takes 12 cycles, and 200 on those where it takes 140. A sleep and
+/// a wake take about as long, and who waits as long as they cost takes at most twice the least time (Karlin et al., "Empirical
+/// Studies of Competitive Spinning for a Shared-Memory Multiprocessor", 1991).
+const MOST: u32 = 4096;
 
 /// The fewest.
 const FEWEST: u32 = 4;
@@ -11,7 +11,7 @@ const FEWEST: u32 = 4;
 /// So many waits in a row without a find, and the next one is a long one again.
 const TRIAL: u32 = 16;
 
-/// How long a core looks before it sleeps: longer where looking paid, and shorter where it was in vain.
+/// How long a core looks before it sleeps: long where looking paid, and each time half as long where it was in vain.
 #[derive(Drop)]
 pub(crate) struct Patience {
     looks: u32,
@@ -33,7 +33,7 @@ impl Patience {
 
     /// The core heard a ring while it looked, and found something to do there.
     pub(crate) fn pay(&mut self) {
-        self.looks = self.looks.saturating_mul(2).min(MOST);
+        self.looks = MOST;
         self.vain = 0;
     }
 
