@@ -41,6 +41,7 @@ use Rattle.core_machine.specs.Direct.{RepliesIn, RepliesBy, GivesFor}
 use Rattle.core_machine.specs.RunParts.{HasMachine, CanStop, started_by, woken_by, Begun, Moved, Shown, over, comes, ComesToEvent}
 use Rattle.core_machine.proofs.Outer.{empty_of}
 use Rattle.core_machine.proofs.Told.{all_then, told}
+use Rattle.core_machine.proofs.Reloading.{loaded_as}
 
 length_fresh : (args : List ℤ) (w : ℕ) → length args ≤ w → length (fresh_words args w) ≡ w
 length_fresh [] w h = let n : w - 0 ≡ w = omega arith in ap (λ k. length (replicate k (pos 0))) n ∙ length-replicate w (pos 0)
@@ -121,23 +122,7 @@ module _ (c : PlainCode) (valid : IsValidCode c) (h : Thread) (l : Loaded c h) (
 
   pub start_begun : p.allowance ≤ 2 ^ 62 → Begun c h started_thread (started_by c h p) p.allowance
   start_begun small = record {
-    loaded = record {
-      thread = l.thread;
-      short = l.short;
-      needs = l.needs;
-      each = l.each;
-      need = l.need;
-      own = l.own;
-      room = l.room;
-      most = l.most;
-      combines = l.combines;
-      serves = serves;
-      folds = l.folds;
-      space = l.space;
-      small = small;
-      units = omega arith;
-      placed = start_works;
-    };
+    loaded = loaded_as c h l started_thread refl refl refl refl refl small serves (omega arith) start_works;
     running = refl;
     number = refl;
     allowance = refl;
@@ -187,23 +172,7 @@ module _ (c : PlainCode) (h : Thread) (l : Loaded c h) (asleep : HasPaused h) (p
       let nothing = empty_of h.stack.below woken_works.chained in
       let o : Own = record { copies = p.copies; flags = h.own.flags; live = h.own.live } in
       record {
-        loaded = record {
-          thread = l.thread;
-          short = l.short;
-          needs = l.needs;
-          each = l.each;
-          need = l.need;
-          own = l.own;
-          room = l.room;
-          most = l.most;
-          combines = l.combines;
-          serves = woken_serves;
-          folds = l.folds;
-          space = l.space;
-          small = small;
-          units = omega arith;
-          placed = subst (λ g. Works false c h.number l.needs g (work h.at h.stack (with_copies p.copies h.own) 0)) (sym own) woken_works;
-        };
+        loaded = loaded_as c h l woken_thread refl refl refl refl refl small woken_serves (omega arith) (subst (λ g. Works false c h.number l.needs g (work h.at h.stack (with_copies p.copies h.own) 0)) (sym own) woken_works);
         running = refl;
         number = refl;
         allowance = refl;

@@ -27,6 +27,7 @@ use Rattle.thread_state.proofs.Lists.{drop_next, drop_past}
 use Rattle.core_machine.proofs.Jobs.{steps_on}
 use Rattle.core_machine.proofs.Replying.{at_fork, from_some, long_some}
 use Rattle.thread_steps.proofs.Steps.{got}
+use Rattle.core_machine.proofs.Reloading.{loaded_as}
 
 -- ---- where it begins
 
@@ -229,23 +230,7 @@ module _ (c : PlainCode) (h2 h3 : Thread) (l : Loaded c h2) (q : h2.phase ≡ ph
   one_state verdict.Over s = s
 
   next_loaded : h2.branches.joined + 1 < length h2.branches.numbers → Loaded c one_more
-  next_loaded lt = record {
-    thread = l.thread;
-    short = l.short;
-    needs = l.needs;
-    each = l.each;
-    need = l.need;
-    own = l.own;
-    room = l.room;
-    most = l.most;
-    combines = l.combines;
-    serves = l.serves;
-    folds = l.folds;
-    space = l.space;
-    small = l.small;
-    units = l.units;
-    placed = subst (HoldsInPhase c l.needs one_more) (sym q) (record { branches = joins_now.branches; some = lt; state = one_state h2.branches.verdict joins_now.state });
-  }
+  next_loaded lt = loaded_as c h2 l one_more refl refl refl refl refl l.small l.serves l.units (subst (HoldsInPhase c l.needs one_more) (sym q) (record { branches = joins_now.branches; some = lt; state = one_state h2.branches.verdict joins_now.state }))
 
   last_or_next : (h2.branches.joined + 1 ≡ length h2.branches.numbers) ⊎ ((h2.branches.joined + 1 ≢ length h2.branches.numbers) × (h2.branches.joined + 1 < length h2.branches.numbers))
   last_or_next =

@@ -1,4 +1,5 @@
 pub mod Told
+pub mod Reloading
 pub mod Outer
 pub mod Spreading
 pub mod CallRuns

@@ -27,6 +27,7 @@ use Rattle.thread_steps.proofs.Advance.{run_add}
 use Rattle.thread_state.proofs.Indexed.{equal_of, differs_of, place_within, found_at}
 use Rattle.core_machine.proofs.Seeds.{place_is}
 use Rattle.thread_steps.proofs.Steps.{copy_at}
+use Rattle.core_machine.proofs.Reloading.{loaded_as}
 
 pub same_or_not : (a b : ℕ) → (a ≡ b) ⊎ (b ≢ a)
 same_or_not a b = by (a == b) refl
@@ -130,55 +131,40 @@ module _ (c : PlainCode) (h : Thread) (l : Loaded c h) (joining : h.phase ≡ ph
 
   pub on_after : (u : ℕ) (f : Fold) → u ≤ h.allowance → f.base ≡ F.base → f.waits ≡ false → GoesOnJoining c h (after u f)
   on_after u f le b q = record {
-    loaded = record {
-      thread = l.thread;
-      short = l.short;
-      needs = l.needs;
-      each = l.each;
-      need = l.need;
-      own = l.own;
-      room = l.room;
-      most = l.most;
-      combines = l.combines;
-      serves = l.serves;
-      folds = length-set h.joining p f ∙ l.folds;
-      space = l.space;
-      small = l.small;
-      units = omega (arith, le);
-      placed = subst (HoldsInPhase c l.needs (after u f)) (sym joining)
-          (record {
-            branches = joins.branches;
-            some = joins.some;
-            state = subst (JoinsByVerdict c l.needs (after u f)) (sym going)
-                (record {
-                  works = record {
-                    at = record {
-                      sound = state.works.at.sound;
-                      here = state.works.at.here;
-                      deep = state.works.at.deep;
-                      bound = state.works.at.bound;
-                      room = state.works.at.room;
-                      counted = state.works.at.counted;
-                      words = state.works.at.words;
-                      counters = state.works.at.counters;
-                      serves = state.works.at.serves;
-                    };
-                    base = state.works.base;
-                    ends = state.works.ends;
-                    need = state.works.need;
-                    enough = state.works.enough;
-                    fits = state.works.fits;
-                    chained = state.works.chained;
-                    inside = state.works.inside;
-                    below = state.works.below;
+    loaded = loaded_as c h l (after u f) refl refl refl (length-set h.joining p f) refl l.small l.serves (omega (arith, le))
+        (subst (HoldsInPhase c l.needs (after u f)) (sym joining)
+        (record {
+          branches = joins.branches;
+          some = joins.some;
+          state = subst (JoinsByVerdict c l.needs (after u f)) (sym going)
+              (record {
+                works = record {
+                  at = record {
+                    sound = state.works.at.sound;
+                    here = state.works.at.here;
+                    deep = state.works.at.deep;
+                    bound = state.works.at.bound;
+                    room = state.works.at.room;
+                    counted = state.works.at.counted;
+                    words = state.works.at.words;
+                    counters = state.works.at.counters;
+                    serves = state.works.at.serves;
                   };
-                  own = state.own;
-                  within = le;
-                  folds = fit_after u f b q;
-                  rest = rest_after u f;
-                });
-          });
-    };
+                  base = state.works.base;
+                  ends = state.works.ends;
+                  need = state.works.need;
+                  enough = state.works.enough;
+                  fits = state.works.fits;
+                  chained = state.works.chained;
+                  inside = state.works.inside;
+                  below = state.works.below;
+                };
+                own = state.own;
+                within = le;
+                folds = fit_after u f b q;
+                rest = rest_after u f;
+              });
+        }));
     phase = joining;
     number = refl;
     allowance = refl;

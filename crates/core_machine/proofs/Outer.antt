@@ -8,7 +8,7 @@ use Rattle.thread_code.specs.declared.instruction.Instruction.{Instruction}
 use Rattle.thread_code.specs.declared.instruction.Instruction.TheVariants as instruction
 use Rattle.thread_code.specs.Plain.{PlainCode}
 use Rattle.thread_code.specs.Valid.{cost, IsParOf, IsValidCode, branches_in, arguments_of}
-use Rattle.thread_code.specs.Machine.{Point, Own, Awaited, Machine, Waits, Paused, with_arguments, awaited, starts, wakes, waking, living, code_uses, act, step}
+use Rattle.thread_code.specs.Machine.{Point, Own, Awaited, Machine, Waits, Paused, with_arguments, awaited, starts, wakes, waking, living, act, step}
 use Rattle.thread_code.specs.Alone.{block_of, view_of, machine_units}
 use Rattle.thread_state.specs.Frames.{topmost_arguments, without}
 use Rattle.thread_state.specs.Kept.{PlainOwn, own_of}
@@ -21,12 +21,12 @@ use Rattle.core_machine.specs.declared.thread.Event.TheVariants as event
 use Rattle.core_machine.specs.Held.{work_of, callers, machine_in, machine_of, branch_of, HasCallDepth, Below, Works, HoldsInPhase}
 use Rattle.core_machine.specs.Threads.{Loaded, event_of}
 use Rattle.core_machine.specs.RunParts.{callers_over, HasMachine, Moved, RunsBlock}
-use Rattle.core_machine.specs.Room.{EnoughToCombine}
 use Rattle.core_machine.specs.Branches.{instruction_of, chosen, with_branches}
 use Rattle.core_machine.specs.declared.fork.ForkAt.{ForkAt}
 use Rattle.core_machine.specs.Forks.{IsFork, IsForkStep}
 use Rattle.core_machine.proofs.BranchLemmas.{starts_name, wakes_name, chosen_are, chosen_few}
 use Rattle.thread_steps.proofs.Steps.{fine}
+use Rattle.core_machine.proofs.Reloading.{loaded_as}
 
 -- ---- lists
 
@@ -193,23 +193,7 @@ module _ (folding : Bool) (c : PlainCode) (h : Thread) (l : Loaded c h) (run : h
     pub runs_block : (s : Stop) → Shows c h.number h.function h.allowance w s → RunsBlock c h went s
     runs_block s shows = record {
       moved = record {
-        loaded = record {
-          thread = l.thread;
-          short = l.short;
-          needs = l.needs;
-          each = l.each;
-          need = l.need;
-          own = l.own;
-          room = omega (arith, l.room, r.keeps.room);
-          most = omega (arith, l.most, r.keeps.most);
-          combines = subst (EnoughToCombine c (block_of c h.number) (code_uses c h.number) l.needs) (sym r.keeps.room) l.combines;
-          serves = r.at.serves;
-          folds = l.folds;
-          space = l.space;
-          small = l.small;
-          units = small;
-          placed = subst (HoldsInPhase c l.needs went) (sym run) works_on;
-        };
+        loaded = loaded_as c h l went refl r.keeps.room r.keeps.most refl refl l.small r.at.serves small (subst (HoldsInPhase c l.needs went) (sym run) works_on);
         number = refl;
         allowance = refl;
         count = r.count;
@@ -244,23 +228,7 @@ module _ (c : PlainCode) (h : Thread) (l : Loaded c h) (run : h.phase ≡ phase.
 
     pub trap_moved : Moved c h trapped
     trap_moved = record {
-      loaded = record {
-        thread = l.thread;
-        short = l.short;
-        needs = l.needs;
-        each = l.each;
-        need = l.need;
-        own = l.own;
-        room = l.room;
-        most = l.most;
-        combines = l.combines;
-        serves = l.serves;
-        folds = l.folds;
-        space = l.space;
-        small = l.small;
-        units = omega (arith, s.0.small, s.1);
-        placed = tt;
-      };
+      loaded = loaded_as c h l trapped refl refl refl refl refl l.small l.serves (omega (arith, s.0.small, s.1)) tt;
       number = refl;
       allowance = refl;
       count = 1;
@@ -275,23 +243,7 @@ module _ (c : PlainCode) (h : Thread) (l : Loaded c h) (run : h.phase ≡ phase.
 
     pub end_moved : Moved c h ended
     end_moved = record {
-      loaded = record {
-        thread = l.thread;
-        short = l.short;
-        needs = l.needs;
-        each = l.each;
-        need = l.need;
-        own = l.own;
-        room = l.room;
-        most = l.most;
-        combines = l.combines;
-        serves = l.serves;
-        folds = l.folds;
-        space = l.space;
-        small = l.small;
-        units = l.units;
-        placed = tt;
-      };
+      loaded = loaded_as c h l ended refl refl refl refl refl l.small l.serves l.units tt;
       number = refl;
       allowance = refl;
       count = 1;
@@ -312,23 +264,7 @@ module _ (c : PlainCode) (h : Thread) (l : Loaded c h) (run : h.phase ≡ phase.
     pause_moved =
         let w = works_at false c h.number l.needs h.function (work_of h) runs to (next h.at (length h.stack.stack) (instruction.Pause to) to runs.at.here s.is refl) in
         record {
-          loaded = record {
-            thread = l.thread;
-            short = l.short;
-            needs = l.needs;
-            each = l.each;
-            need = l.need;
-            own = l.own;
-            room = l.room;
-            most = l.most;
-            combines = l.combines;
-            serves = l.serves;
-            folds = l.folds;
-            space = l.space;
-            small = l.small;
-            units = l.units;
-            placed = (subst (λ g. Works false c h.number l.needs g (work to h.stack h.own h.units)) pause_own w, pause_own);
-          };
+          loaded = loaded_as c h l paused refl refl refl refl refl l.small l.serves l.units ((subst (λ g. Works false c h.number l.needs g (work to h.stack h.own h.units)) pause_own w, pause_own));
           number = refl;
           allowance = refl;
           count = 1;
@@ -385,36 +321,21 @@ module _ (c : PlainCode) (h : Thread) (l : Loaded c h) (run : h.phase ≡ phase.
       fork_moved =
           let none = empty_of h.stack.below works_own.chained in
           record {
-            loaded = record {
-              thread = l.thread;
-              short = l.short;
-              needs = l.needs;
-              each = l.each;
-              need = l.need;
-              own = l.own;
-              room = l.room;
-              most = l.most;
-              combines = l.combines;
-              serves = l.serves;
-              folds = l.folds;
-              space = l.space;
-              small = l.small;
-              units = omega (arith, counted, s.1.within, cost_by f.par f.to f.again);
-              placed = record {
-                works = works_own;
-                own = fork_is_own;
-                is = is;
-                forks = forks;
-                units = ap machine_units stepped ∙ sym counted;
-                seeds = waits.for.seeds;
-                view = ap view_of stepped;
-                numbers = sym waits.names;
-                branches = chosen_are c valid h.number f.par (par_by c h.number h.allowance (work_of h) works_own.at s.1.within f.par f.to f.again is) f.again h.own.live;
-                few = chosen_few c valid f.par f.again h.own.live;
-                settled = omega arith;
-                joined = refl;
-              };
-            };
+            loaded = loaded_as c h l forked refl refl refl refl refl l.small l.serves (omega (arith, counted, s.1.within, cost_by f.par f.to f.again))
+                (record {
+                  works = works_own;
+                  own = fork_is_own;
+                  is = is;
+                  forks = forks;
+                  units = ap machine_units stepped ∙ sym counted;
+                  seeds = waits.for.seeds;
+                  view = ap view_of stepped;
+                  numbers = sym waits.names;
+                  branches = chosen_are c valid h.number f.par (par_by c h.number h.allowance (work_of h) works_own.at s.1.within f.par f.to f.again is) f.again h.own.live;
+                  few = chosen_few c valid f.par f.again h.own.live;
+                  settled = omega arith;
+                  joined = refl;
+                });
             number = refl;
             allowance = refl;
             count = 1;
