@@ -32,7 +32,7 @@ jobs_split b (w ∷ u) v = by_test (w.branch == b) (jobs_split b u v)
     by_test true h = ap (λ l. w.job ∷ l) h
     by_test false h = h
 
-jobs_then : (b : ℕ) (xs ys : List Answered) → jobs_to b (xs ++ ys) ≡ jobs_to b xs ++ jobs_to b ys
+pub jobs_then : (b : ℕ) (xs ys : List Answered) → jobs_to b (xs ++ ys) ≡ jobs_to b xs ++ jobs_to b ys
 jobs_then b [] ys = refl
 jobs_then b (x ∷ xs) ys = by_test (x.branch == b) (jobs_then b xs ys)
   where

@@ -10,3 +10,4 @@ pub mod Differing
 pub mod Failing
 pub mod Deciding
 pub mod Pausing
+pub mod OneMore

@@ -9,13 +9,13 @@ use Rattle.exchange_meaning.specs.Logged.{ExchangeLog, HasBranch}
 use Rattle.exchange_meaning.specs.Telling.{TellsBranches}
 use Rattle.exchange_meaning.specs.Replays.{AgreesWholly}
 
-inside : (ts : List PlainThread) (b t : ℕ) → (get_or ts b blank_thread).parent ≡ Some t → b < length ts
+pub inside : (ts : List PlainThread) (b t : ℕ) → (get_or ts b blank_thread).parent ≡ Some t → b < length ts
 inside [] zero t e = cc
 inside [] (suc b) t e = cc
 inside (x ∷ ts) zero t e = omega arith
 inside (x ∷ ts) (suc b) t e = let ih = inside ts b t e in omega (arith, ih)
 
-some_number : (a b : ℕ) → Some a ≡ Some b → a ≡ b
+pub some_number : (a b : ℕ) → Some a ≡ Some b → a ≡ b
 some_number a b e = cc
 
 pub below_of : (s : PlainShape) → FineShape s → (t b : ℕ) → HasBranch s t b → (t < b) × (b < length s.threads)

@@ -51,8 +51,17 @@ later_replies c w1 w2 tracks numbers rs h = record {
 
 -- ---- at a fork
 
-module _ (c : PlainCode) (valid : IsValidCode c) (l : Log) (log : ExchangeLog) (jobs : List Job) (job : Job) (w : Walk) (loaded : Loaded c w.thread) (settled : HasSettled w.thread 0)
-    (numbers : w.thread.branches.numbers ≡ map (λ v. v.branch) (jobs_at c w.thread)) (i : WalksJob c l log w jobs job) where
+-- a job in progress that has come to a fork
+pub record HasForked (c : PlainCode) (l : Log) (log : ExchangeLog) (jobs : List Job) (job : Job) (w : Walk) : Type 0 where
+  pub valid : IsValidCode c
+  pub loaded : Loaded c w.thread
+  pub settled : HasSettled w.thread 0
+  pub numbers : w.thread.branches.numbers ≡ map (λ v. v.branch) (jobs_at c w.thread)
+  pub at : WalksJob c l log w jobs job
+
+module _ {c : PlainCode} {l : Log} {log : ExchangeLog} {jobs : List Job} {job : Job} {w : Walk} (fork : HasForked c l log jobs job w) where
+  open fork use {valid, loaded, settled, numbers, at as i}
+
   abbrev h : Thread
   h = w.thread
 

@@ -1,6 +1,8 @@
 -- The logged replies at a fork, one by one.
 use Rattle.std.proofs.Common.{◌≡◌, ℕ, suc, ◌+◌, ◌<◌, List, [], ◌∷◌, ◌++◌, take, length, get_or, refl, sym, ap, ◌∙◌, subst, arith}
-use Rattle.std.specs.Prelude.{Option, Some, None, slice_get, slice_index_or}
+use Rattle.std.specs.Prelude.{Option, Some, None, slice_get, slice_index_or, vec_len}
+use Rattle.std.specs.declared.alloc.Global.{Global}
+use Rattle.std.specs.declared.vec.Vec.{Vec}
 use Rattle.std.proofs.lemmas.Option.{slice_get_within, slice_get-get_or, get_or_from_slice_get}
 use Rattle.forec_kernel.specs.Engine.{Reply, WasPaused, WasEnded, WasTrapped, WasOver, Exchange}
 use Rattle.forec_kernel.specs.Packed.{HasRoom, IsReply}
@@ -36,24 +38,24 @@ is_reply_kind kind.Wake (WasEnded copies u) p e h = let f = sym (ap plain_kind e
 is_reply_kind kind.Wake (WasTrapped place trap u) p e h = let f = sym (ap plain_kind e) ∙ h.0 in cc
 is_reply_kind kind.Wake WasOver p e h = let f = sym (ap plain_kind e) ∙ h in cc
 
-module _ (c : PlainCode) (w : Walk) (branches : List ℕ) (rs : List Reply) (heard : HaveLoggedReplies c w branches rs) (k b : ℕ) (at : slice_get branches k ≡ Some b) where
+module _ {c : PlainCode} {w : Walk} {branches : List ℕ} {rs : List Reply} (heard : HaveLoggedReplies c w branches rs) (k b : ℕ) (at : slice_get branches k ≡ Some b) where
   pub reply_at : (r : Reply) × (slice_get rs k ≡ Some r)
   reply_at = let lt = slice_get_within branches k b at in (get_or rs k WasOver, slice_get-get_or rs k WasOver (omega (arith, lt, heard.count)))
 
   heard_at : HasLoggedReply c w b reply_at.0
   heard_at = heard.each k b reply_at.0 at reply_at.1
 
-  pub in_tracks : b < length w.branches.items
-  in_tracks = slice_get_within w.branches.items b (Some heard_at.track) heard_at.at
+  pub in_tracks : (now : Vec (Option Track) Global) → now ≡ w.branches → b < vec_len now
+  in_tracks now same = subst (λ n. b < n) (sym now.ok.0) (subst (λ (v : Vec (Option Track) Global). b < length v.items) (sym same) (slice_get_within w.branches.items b (Some heard_at.track) heard_at.at))
 
-  module _ (x : Option Track) (read : x ≡ slice_index_or w.branches.items b x) where
+  module _ {x : Option Track} (read : x ≡ slice_index_or w.branches.items b x) where
     track_is : x ≡ Some heard_at.track
     track_is = read ∙ get_or_from_slice_get w.branches.items b (Some heard_at.track) x heard_at.at
 
     pub has_track : x ≡ None → ⊥
     has_track e = let f = sym track_is ∙ e in cc
 
-    module _ (y : Track) (is : x ≡ Some y) where
+    module _ {y : Track} (is : x ≡ Some y) where
       same : heard_at.track ≡ y
       same = some_once heard_at.track y (sym track_is ∙ is)
 

@@ -12,6 +12,7 @@ use Rattle.exchange_meaning.specs.Logged.{Logged, ExchangeLog, HasBranch}
 use Rattle.exchange_meaning.specs.LogLines.{log_text, log_lines_from, thread_log_lines}
 use Rattle.exchange_meaning.specs.LogOf.{LogOf}
 use Rattle.exchange_meaning.proofs.Complete.{log_one}
+use Rattle.exchange_meaning.proofs.Shaped.{inside, some_number}
 use Rattle.log_runs.specs.Laws.{RunHasOneLog}
 use Rattle.log_runs.specs.RunLogs.{IsLogReport, Of_kept, Of_full, IsRunLog, logged_report, log_full, run_status}
 use Rattle.exchange_log.specs.Posted.{log_words_from, pair_words, log_words}
@@ -20,15 +21,6 @@ use Rattle.trace_runs.specs.Report.{Report, trace_turns}
 use Rattle.trace_runs.specs.declared.status.Status.{Status}
 
 -- ---- the branches of a kernel's threads
-
-inside : (ts : List PlainThread) (b t : ℕ) → (get_or ts b blank_thread).parent ≡ Some t → b < length ts
-inside [] zero t e = cc
-inside [] (suc b) t e = cc
-inside (x ∷ ts) zero t e = omega arith
-inside (x ∷ ts) (suc b) t e = let ih = inside ts b t e in omega (arith, ih)
-
-some_number : (a b : ℕ) → Some a ≡ Some b → a ≡ b
-some_number a b e = cc
 
 module _ (k : PlainKernel) (fine : WellFormed k) where
   pub below : (t b : ℕ) → HasBranch k.shape t b → (t < b) × (b < length k.shape.threads)

@@ -1,6 +1,5 @@
 -- Lemmas.
 pub mod AllCores
-pub mod Alongside
 pub mod HeadRuns
 pub mod KernelLogs
 pub mod LinesOver

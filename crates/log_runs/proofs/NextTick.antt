@@ -10,7 +10,9 @@ use Rattle.forec_kernel.specs.Shapes.{PlainShape}
 use Rattle.forec_kernel.proofs.Same.{IsSteady, IsTotal, serves_total}
 use Rattle.exchange_meaning.specs.Logged.{Logged, ExchangeLog, jobs_in, logged, told_to, HasBranch, AreTold, StartsWith}
 use Rattle.exchange_meaning.specs.Telling.{TellsBranches}
-use Rattle.exchange_meaning.proofs.Deciding.{AtFork_of, jobs_for, pairs_at, fork_refutes}
+use Rattle.exchange_meaning.proofs.Complete.{alone_length}
+use Rattle.exchange_meaning.proofs.Deciding.{AtFork_of, jobs_for, jobs_then, pairs_at, fork_refutes}
+use Rattle.exchange_meaning.proofs.OneMore.{LastFork, all_reply, jobs_snoc, left_by, overs, overs_count, pairs_snoc, same_self, served_on, told_back, told_front, ws_at}
 use Rattle.exchange_meaning.proofs.TellingLemmas.{equal_number, told_then, jobs_told, jobs_append}
 
 -- ---- jobs are the same, or not
@@ -90,14 +92,6 @@ same_next (x ∷ xs) a b us vs e = let f : xs ++ a ∷ us ≡ xs ++ b ∷ vs = c
 too_short : (xs : List Job) (a : Job) (us : List Job) → xs ≡ xs ++ a ∷ us → ⊥
 too_short [] a us e = cc
 too_short (x ∷ xs) a us e = let f : xs ≡ xs ++ a ∷ us = cc in too_short xs a us f
-
-jobs_then : (b : ℕ) (xs ys : List Answered) → jobs_to b (xs ++ ys) ≡ jobs_to b xs ++ jobs_to b ys
-jobs_then b [] ys = refl
-jobs_then b (x ∷ xs) ys = by_test (x.branch == b) (jobs_then b xs ys)
-  where
-    by_test : (test : Bool) → jobs_to b (xs ++ ys) ≡ jobs_to b xs ++ jobs_to b ys → cond test (x.job ∷ jobs_to b (xs ++ ys)) (jobs_to b (xs ++ ys)) ≡ cond test (x.job ∷ jobs_to b xs) (jobs_to b xs) ++ jobs_to b ys
-    by_test true h = ap (λ l. x.job ∷ l) h
-    by_test false h = h
 
 -- ---- what a log has for the jobs of a fork
 
@@ -216,9 +210,6 @@ sums_more f g (suc n) i h more lt = by (nat_found i n) (λ less. sums_more f g n
         let rest = rec less in
         let here = h n in omega (arith, rest, here)
 
-same_self : (n : ℕ) → (n == n) ≡ true
-same_self n = grind (arith, nat_tests)
-
 module _ (s : PlainShape) (log : ExchangeLog) (t : ℕ) (within : (b : ℕ) → HasBranch s t b → b < length s.threads) where
   told_sum : (xs : List Answered) → AreTold s t xs → length xs ≤ sum_below (λ b. length (told_to b xs)) (length s.threads)
   told_sum [] h = omega arith
@@ -263,14 +254,6 @@ pairs_up [] rs e = refl
 pairs_up (w ∷ ws) [] e = cc
 pairs_up (w ∷ ws) (r ∷ rs) e = let f : length rs ≡ length ws = cc in ap suc (pairs_up ws rs f)
 
-told_front : (s : PlainShape) (t : ℕ) (xs ys : List Answered) → AreTold s t (xs ++ ys) → AreTold s t xs
-told_front s t [] ys h = tt
-told_front s t (x ∷ xs) ys h = (h.0, told_front s t xs ys h.1)
-
-told_back : (s : PlainShape) (t : ℕ) (xs ys : List Answered) → AreTold s t (xs ++ ys) → AreTold s t ys
-told_back s t [] ys h = h
-told_back s t (x ∷ xs) ys h = told_back s t xs ys h.1
-
 told_append : (s : PlainShape) (t : ℕ) (xs ys : List Answered) → AreTold s t xs → AreTold s t ys → AreTold s t (xs ++ ys)
 told_append s t [] ys h g = g
 told_append s t (x ∷ xs) ys h g = (h.0, told_append s t xs ys h.1 g)
@@ -285,14 +268,6 @@ module _ (s : PlainShape) (log : ExchangeLog) (t : ℕ) where
   mine_up [] rs h = tt
   mine_up (w ∷ ws) [] h = tt
   mine_up (w ∷ ws) (r ∷ rs) h = (h.0, mine_up ws rs h.1)
-
-abbrev overs : List Written → List Reply
-overs [] = []
-overs (w ∷ ws) = WasOver ∷ overs ws
-
-overs_count : (ws : List Written) → length (overs ws) ≡ length ws
-overs_count [] = refl
-overs_count (w ∷ ws) = ap suc (overs_count ws)
 
 module _ (S : Type 0) (e : Engine S) (total : IsTotal e) (never : (s' : S) → e.view s' ≡ AtFork [] → ⊥) (s : PlainShape) (log : ExchangeLog) (t : ℕ) (within : (b : ℕ) → HasBranch s t b → b < length s.threads) (a : ℕ) where
   -- whatever is replied, the thread tells its own branches
@@ -335,31 +310,12 @@ module _ (S : Type 0) (e : Engine S) (total : IsTotal e) (never : (s' : S) → e
     told = subst (λ (x : Output). Told s log t (past ++ pair_forks x.jobs [])) (sym is) (subst (Told s log t) (sym (append-nil past)) told);
   })
 
-  abbrev ws_at : S → List Seed → List Written
-  ws_at st seeds = map (written (a - e.units st)) seeds
-
-  abbrev LastFork : S → List Seed → Output → Rest S → Type 0
-  LastFork s' seeds o r = (o ≡ ends_at (ws_at s' seeds)) × (r ≡ Nothing)
-
-  abbrev NextFork : List Reply → List (List Reply) → S → List Seed → Output → Rest S → Type 0
-  NextFork rs more s' seeds o r = IfElse (length rs == length seeds) ((p : Output) × Serves e a more (e.join rs s') p r × (o ≡ first_jobs (ws_at s' seeds) p)) ((o ≡ ends_at (ws_at s' seeds)) × (r ≡ Nothing))
-
-  -- the thread is served on after a fork
-  served_on : (st s' : S) (seeds : List Seed) (rs : List Reply) (more : List (List Reply)) (o : Output) (r : Rest S) → Reaches e a st s' → e.view s' ≡ AtFork seeds → length rs ≡ length seeds → Serves e a more (e.join rs s') o r →
-      Serves e a (rs ∷ more) st (first_jobs (ws_at s' seeds) o) r
-  served_on st s' seeds rs more o r reach is count serves =
-      event s' reach (subst (λ v. AtEvent e s' v (NextFork rs more s') (first_jobs (ws_at s' seeds) o) r) (sym is) (by_test (length rs == length seeds) (ap (λ n. length rs == n) (sym count) ∙ same_self (length rs))))
-    where
-      by_test : (test : Bool) → test ≡ true → IfElse test ((p : Output) × Serves e a more (e.join rs s') p r × (first_jobs (ws_at s' seeds) o ≡ first_jobs (ws_at s' seeds) p)) ((first_jobs (ws_at s' seeds) o ≡ ends_at (ws_at s' seeds)) × (r ≡ Nothing))
-      by_test true h = (o, serves, refl)
-      by_test false h = cc
-
   abbrev Next : List Answered → S → Type 0
   Next past st = (past' : List Answered) (st' : S) → AreTold s t past' → Told s log t past' → Own st' → length past < length past' → Either past' st'
 
   module _ (past : List Answered) (st : S) (mine : AreTold s t past) (told : Told s log t past) (own : Own st) (s' : S) (seeds : List Seed) (reach : Reaches e a st s') (is : e.view s' ≡ AtFork seeds) where
     abbrev ws : List Written
-    ws = ws_at s' seeds
+    ws = ws_at e a s' seeds
 
     ws_count : length ws ≡ length seeds
     ws_count = length-map seeds (written (a - e.units s'))
@@ -375,7 +331,7 @@ module _ (S : Type 0) (e : Engine S) (total : IsTotal e) (never : (s' : S) → e
     ws_mine =
         let rs = overs ws in
         let first = serves_total S e total a [] (e.join rs s') in
-        let served = served_on st s' seeds rs [] first.0 first.1 reach is (overs_count ws ∙ ws_count) first.2 in
+        let served = served_on e a st s' seeds rs [] first.0 first.1 reach is (overs_count ws ∙ ws_count) first.2 in
         mine_of s log t ws rs (overs_count ws) (told_front s t (pair_up ws rs) (pair_forks first.0.jobs []) (own (rs ∷ []) (first_jobs ws first.0) first.1 served))
 
     strayed : Differs s log t past ws → Either past st
@@ -384,7 +340,7 @@ module _ (S : Type 0) (e : Engine S) (total : IsTotal e) (never : (s' : S) → e
       forks = [];
       ws = ws;
       rest = Nothing;
-      serves = event s' reach (subst (λ v. AtEvent e s' v (LastFork s') (ends_at ws) Nothing) (sym is) (refl, refl));
+      serves = event s' reach (subst (λ v. AtEvent e s' v (LastFork e a s') (ends_at ws) Nothing) (sym is) (refl, refl));
       short = refl;
       told = subst (Told s log t) (sym (append-nil past)) told;
       differs = subst (λ ps. Differs s log t ps ws) (sym (append-nil past)) d;
@@ -395,7 +351,7 @@ module _ (S : Type 0) (e : Engine S) (total : IsTotal e) (never : (s' : S) → e
       rss = rs ∷ x.rss;
       o = first_jobs ws x.o;
       rest = x.rest;
-      serves = served_on st s' seeds rs x.rss x.o x.rest reach is (count ∙ ws_count) x.serves;
+      serves = served_on e a st s' seeds rs x.rss x.o x.rest reach is (count ∙ ws_count) x.serves;
       reply = x.reply;
       is = x.is;
       told = subst (Told s log t) (append_assoc past (pair_up ws rs) (pair_forks x.o.jobs x.rss)) x.told;
@@ -408,7 +364,7 @@ module _ (S : Type 0) (e : Engine S) (total : IsTotal e) (never : (s' : S) → e
           forks = ws ∷ x.forks;
           ws = x.ws;
           rest = x.rest;
-          serves = served_on st s' seeds rs x.rss o x.rest reach is (count ∙ ws_count) x.serves;
+          serves = served_on e a st s' seeds rs x.rss o x.rest reach is (count ∙ ws_count) x.serves;
           short = ap suc x.short;
           told = subst (Told s log t) more x.told;
           differs = subst (λ ps. Differs s log t ps x.ws) more x.differs;
@@ -426,7 +382,7 @@ module _ (S : Type 0) (e : Engine S) (total : IsTotal e) (never : (s' : S) → e
             let some = ws_some in
             went_on rs m.count
             (next (past ++ pair_up ws rs) (e.join rs s') (told_append s t past (pair_up ws rs) mine (mine_up s log t ws rs ws_mine)) m.told
-            (λ rss o r h. told_back s t (pair_up ws rs) (pair_forks o.jobs rss) (own (rs ∷ rss) (first_jobs ws o) r (served_on st s' seeds rs rss o r reach is (m.count ∙ ws_count) h)))
+            (λ rss o r h. told_back s t (pair_up ws rs) (pair_forks o.jobs rss) (own (rs ∷ rss) (first_jobs ws o) r (served_on e a st s' seeds rs rss o r reach is (m.count ∙ ws_count) h)))
             (omega (arith, longer, more, some)))
 
   step_from : (past : List Answered) (st : S) → AreTold s t past → Told s log t past → Own st → Next past st → Either past st
@@ -435,8 +391,8 @@ module _ (S : Type 0) (e : Engine S) (total : IsTotal e) (never : (s' : S) → e
     | inr h ↦ by_view h.0 h.1 (e.view h.0) refl
   ]
     where
-      plain : (s' : S) → Reaches e a st s' → (v : View) → e.view s' ≡ v → (q : Reply) (r : Rest S) → AtEvent e s' v (LastFork s') (answers_with q) r → Either past st
-      plain s' reach v is q r at = replied past st (answers_with q) r q refl (event s' reach (subst (λ w. AtEvent e s' w (LastFork s') (answers_with q) r) (sym is) at)) told
+      plain : (s' : S) → Reaches e a st s' → (v : View) → e.view s' ≡ v → (q : Reply) (r : Rest S) → AtEvent e s' v (LastFork e a s') (answers_with q) r → Either past st
+      plain s' reach v is q r at = replied past st (answers_with q) r q refl (event s' reach (subst (λ w. AtEvent e s' w (LastFork e a s') (answers_with q) r) (sym is) at)) told
 
       by_view : (s' : S) → Reaches e a st s' → (v : View) → e.view s' ≡ v → Either past st
       by_view s' reach Going is = absurd (subst IsStopped is reach.stops)
@@ -453,81 +409,6 @@ module _ (S : Type 0) (e : Engine S) (total : IsTotal e) (never : (s' : S) → e
       step_from past st mine told own (λ past' st' m h o lt. walk_from n past' st' m h o (omega (arith, lt, bound)))
 
 -- ---- one job more
-
-module _ {S : Type 0} (e : Engine S) where
-  abbrev Slept : Rest S → Type 0
-  Slept r = (s' : S) × (r ≡ Asleep s')
-
-  event_slept : (st : S) (v : View) (fork : List Seed → Output → Rest S → Type 0) (o : Output) (r : Rest S) (c : List VarCopy) (u : ℕ) → o.reply ≡ Some (WasPaused c u) → ((seeds : List Seed) → fork seeds o r → Slept r) →
-      AtEvent e st v fork o r → Slept r
-  event_slept st Going fork o r c u g f h = absurd h
-  event_slept st (AtFork seeds) fork o r c u g f h = f seeds h
-  event_slept st (Pausing d) fork o r c u g f h = (st, h.1)
-  event_slept st (Ending d) fork o r c u g f h = let bad : Some (WasEnded d (e.units st)) ≡ Some (WasPaused c u) = sym (ap (λ (x : Output). x.reply) h.0) ∙ g in cc
-  event_slept st (Trapping place trap) fork o r c u g f h = let bad : Some (WasTrapped place trap (e.units st)) ≡ Some (WasPaused c u) = sym (ap (λ (x : Output). x.reply) h.0) ∙ g in cc
-  event_slept st Exceeding fork o r c u g f h = let bad : Some WasOver ≡ Some (WasPaused c u) = sym (ap (λ (x : Output). x.reply) h.0) ∙ g in cc
-
-  runs_slept : (a : ℕ) (st : S) (fork : S → List Seed → Output → Rest S → Type 0) (o : Output) (r : Rest S) (c : List VarCopy) (u : ℕ) → o.reply ≡ Some (WasPaused c u) →
-      ((s' : S) (seeds : List Seed) → fork s' seeds o r → Slept r) → RunsOn e a st fork o r → Slept r
-  runs_slept a st fork o r c u g f (over x xo xr) = let bad : Some WasOver ≡ Some (WasPaused c u) = sym (ap (λ (q : Output). q.reply) xo) ∙ g in cc
-  runs_slept a st fork o r c u g f (event s' x at) = event_slept s' (e.view s') (fork s') o r c u g (f s') at
-
-  none_paused : (o : Output) (ws : List Written) (c : List VarCopy) (u : ℕ) → o ≡ ends_at ws → o.reply ≡ Some (WasPaused c u) → ⊥
-  none_paused o ws c u is g = let bad : None ≡ Some (WasPaused c u) = sym (ap (λ (x : Output). x.reply) is) ∙ g in cc
-
-  serves_slept : (a : ℕ) (rss : List (List Reply)) (st : S) (o : Output) (r : Rest S) (c : List VarCopy) (u : ℕ) → o.reply ≡ Some (WasPaused c u) → Serves e a rss st o r → Slept r
-  serves_slept a [] st o r c u g h = runs_slept a st _ o r c u g (λ s' seeds x. absurd (none_paused o (map (written (a - e.units s')) seeds) c u x.0 g)) h
-  serves_slept a (rs ∷ more) st o r c u g h =
-      runs_slept a st _ o r c u g (λ s' seeds x. by_test s' seeds (length rs == length seeds) (λ o1 y z. serves_slept a more (e.join rs s') o1 r c u z y) x) h
-    where
-      by_test : (s' : S) (seeds : List Seed) (test : Bool) → ((o1 : Output) → Serves e a more (e.join rs s') o1 r → o1.reply ≡ Some (WasPaused c u) → Slept r) →
-          IfElse test ((o1 : Output) × Serves e a more (e.join rs s') o1 r × (o ≡ first_jobs (map (written (a - e.units s')) seeds) o1)) ((o ≡ ends_at (map (written (a - e.units s')) seeds)) × (r ≡ Nothing)) → Slept r
-      by_test s' seeds true ih x = ih x.0 x.1 (sym (ap (λ (z : Output). z.reply) x.2) ∙ g)
-      by_test s' seeds false ih x = absurd (none_paused o (map (written (a - e.units s')) seeds) c u x.0 g)
-
-  -- what the last of these jobs has left
-  pub record Left (xs : List Exchange) (first : Rest S) (os : List Output) : Type 0 where
-    pub rest : Rest S
-    pub then : (x : Exchange) (o : Output) (st : S) (r : Rest S) → Begins e x.job rest st → Serves e (allowance_of x.job) x.replies st o r → Alone e (xs ++ x ∷ []) first (os ++ o ∷ [])
-    pub slept : (c : List VarCopy) (u : ℕ) → last_reply os ≡ Some (WasPaused c u) → Slept rest
-    pub nothing : length os ≡ 0 → rest ≡ first
-
-  pub left_by : (xs : List Exchange) (first : Rest S) (os : List Output) → Alone e xs first os → Left xs first os
-  left_by [] first [] h = record { rest = first; then = λ x o st r b g. (st, r, b, g, tt); slept = λ c u g. cc; nothing = λ n. refl }
-  left_by [] first (o ∷ os) h = absurd h
-  left_by (x ∷ xs) first [] h = absurd h
-  left_by (x ∷ xs) first (o ∷ []) h =
-      let l = left_by xs h.1 [] h.4 in
-      record {
-        rest = l.rest;
-        then = λ y p st r b g. (h.0, h.1, h.2, h.3, l.then y p st r b g);
-        slept = λ c u g. let w = serves_slept (allowance_of x.job) x.replies h.0 o h.1 c u g h.3 in (w.0, l.nothing refl ∙ w.1);
-        nothing = λ n. cc;
-      }
-  left_by (x ∷ xs) first (o ∷ p ∷ os) h =
-      let l = left_by xs h.1 (p ∷ os) h.4 in
-      record { rest = l.rest; then = λ y q st r b g. (h.0, h.1, h.2, h.3, l.then y q st r b g); slept = λ c u g. l.slept c u g; nothing = λ n. cc }
-
-length_alone : {S : Type 0} → (e : Engine S) (xs : List Exchange) (r : Rest S) (os : List Output) → Alone e xs r os → length os ≡ length xs
-length_alone e [] r [] h = refl
-length_alone e [] r (o ∷ os) h = absurd h
-length_alone e (x ∷ xs) r [] h = absurd h
-length_alone e (x ∷ xs) r (o ∷ os) h = ap suc (length_alone e xs h.1 os h.4)
-
-pairs_snoc : (xs : List Exchange) (os : List Output) (x : Exchange) (o : Output) → length os ≡ length xs → pair_all (xs ++ x ∷ []) (os ++ o ∷ []) ≡ pair_all xs os ++ pair_forks o.jobs x.replies
-pairs_snoc [] [] x o c = append-nil (pair_forks o.jobs x.replies)
-pairs_snoc [] (p ∷ os) x o c = cc
-pairs_snoc (y ∷ xs) [] x o c = cc
-pairs_snoc (y ∷ xs) (p ∷ os) x o c =
-    let c' : length os ≡ length xs = cc in ap (λ l. pair_forks p.jobs y.replies ++ l) (pairs_snoc xs os x o c') ∙ sym (append_assoc (pair_forks p.jobs y.replies) (pair_all xs os) (pair_forks o.jobs x.replies))
-
-all_reply : (os : List Output) (o : Output) (r : Reply) → AllReply os → o.reply ≡ Some r → AllReply (os ++ o ∷ [])
-all_reply [] o r h e = ((r, e), tt)
-all_reply (p ∷ os) o r h e = (h.0, all_reply os o r h.1 e)
-
-jobs_snoc : (xs : List Exchange) (x : Exchange) → map (λ y. y.job) (xs ++ x ∷ []) ≡ map (λ y. y.job) xs ++ x.job ∷ []
-jobs_snoc [] x = refl
-jobs_snoc (y ∷ xs) x = ap (λ l. y.job ∷ l) (jobs_snoc xs x)
 
 module _ (S : Type 0) (es : ℕ → Engine S) (s : PlainShape) (log : ExchangeLog) (below : (t b : ℕ) → HasBranch s t b → (t < b) × (b < length s.threads)) (t : ℕ) (steady : IsSteady (es t)) (total : IsTotal (es t))
     (never : (s' : S) → (es t).view s' ≡ AtFork [] → ⊥) (own : (xs : List Exchange) (os : List Output) → Alone (es t) xs Nothing os → AreTold s t (pair_all xs os)) where
@@ -552,7 +433,7 @@ module _ (S : Type 0) (es : ℕ → Engine S) (s : PlainShape) (log : ExchangeLo
     past = pair_all T.exchanges T.outputs
 
     count : length T.outputs ≡ length T.exchanges
-    count = length_alone (es t) T.exchanges Nothing T.outputs T.runs
+    count = alone_length (es t) T.exchanges Nothing T.outputs T.runs
 
     runs_more : (rss : List (List Reply)) (o : Output) (r : Rest S) → Serves (es t) (allowance_of job) rss st o r → Alone (es t) (T.exchanges ++ record { job = job; replies = rss } ∷ []) Nothing (T.outputs ++ o ∷ [])
     runs_more rss o r serves = (left_by (es t) T.exchanges Nothing T.outputs T.runs).then (record { job = job; replies = rss }) o st r begins serves

@@ -18,10 +18,11 @@ use Rattle.exchange_meaning.specs.LogOf.{AllButLastPause}
 use Rattle.exchange_meaning.specs.Replays.{AllAgree}
 use Rattle.exchange_meaning.proofs.Complete.{alone_length}
 use Rattle.forec_kernel.proofs.KeptCopies.{jobs_then}
+use Rattle.exchange_meaning.proofs.OneMore.{last_there, left_by, paused_reply}
 use Rattle.exchange_meaning.proofs.Sound.{tells_answered}
 use Rattle.exchange_meaning.proofs.TickLemmas.{Cut, Follows, first, later, forward, job_is, tick_told}
 use Rattle.forec_kernel.proofs.Distinct.{branches_apart}
-use Rattle.log_runs.proofs.NextTick.{left_by, OneMore, NoMore, next_job}
+use Rattle.log_runs.proofs.NextTick.{OneMore, NoMore, next_job}
 
 -- ---- a fork has a branch that runs
 
@@ -100,22 +101,6 @@ snoc_of (t ∷ turns) = inr (by (snoc_of turns))
     by : (turns ≡ []) ⊎ ((old : List TickInput) × (turn : TickInput) × (turns ≡ old ++ turn ∷ [])) → (old : List TickInput) × (turn : TickInput) × (t ∷ turns ≡ old ++ turn ∷ [])
     by (inl e) = ([], t, ap (λ ts. t ∷ ts) e)
     by (inr h) = (t ∷ h.0, h.1, ap (λ ts. t ∷ ts) h.2)
-
--- a tick before others pauses
-pub pause_at : (k : PlainKernel) (s : TickState) (old : List TickInput) (t turn : TickInput) (more : List TickInput) → AllButLastPause k s ((old ++ t ∷ []) ++ turn ∷ more) → (tick k t.budget (state_after k s old) t.row).outcome ≡ outcome.Paused
-pause_at k s [] t turn more h = h.0
-pause_at k s (x ∷ []) t turn more h = pause_at k (next_state k s x) [] t turn more h.1
-pause_at k s (x ∷ y ∷ old) t turn more h = pause_at k (next_state k s x) (y ∷ old) t turn more h.1
-
-paused_reply : (k : PlainKernel) (T : Tick) (r : Reply) → MeansReply k T r → T.outcome ≡ outcome.Paused → (copies : List VarCopy) × (u : ℕ) × (r ≡ WasPaused copies u)
-paused_reply k T (WasPaused copies u) h p = (copies, u, refl)
-paused_reply k T (WasEnded copies u) h p = let f = sym p ∙ h.0 in cc
-paused_reply k T (WasTrapped place trap u) h p = let f = sym p ∙ h in cc
-paused_reply k T WasOver h p = let f = sym p ∙ h in cc
-
-last_there : (os : List Output) (o : Output) → AllReply (o ∷ os) → (r : Reply) × (last_reply (o ∷ os) ≡ Some r)
-last_there [] o h = (h.0.0, h.0.1)
-last_there (p ∷ os) o h = last_there os p h.1
 
 none_done : (s : PlainShape) (last : Option Reply) (xs : List Exchange) (os : List Output) → AreTicks s last [] xs os → (xs ≡ []) × (os ≡ [])
 none_done s last [] [] h = (refl, refl)

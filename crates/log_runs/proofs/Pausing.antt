@@ -1,19 +1,12 @@
 -- The ticks over a trace pause, but for the last.
 use Rattle.std.proofs.Common.{◌≡◌, ℕ, Bool, true, false, List, [], ◌∷◌, if◌then◌else◌, refl}
-use Rattle.forec_kernel.specs.declared.shape.Outcome.{Outcome}
-use Rattle.forec_kernel.specs.declared.shape.Outcome.TheVariants as outcome
 use Rattle.forec_kernel.specs.Composed.{TickInput}
 use Rattle.forec_kernel.specs.Shapes.{PlainKernel}
 use Rattle.forec_kernel.specs.Ticks.{TickState, Fresh, Tick, tick, goes_on}
 use Rattle.exchange_meaning.specs.LogOf.{AllButLastPause}
 use Rattle.trace_rows.specs.Trace.{Row}
 use Rattle.trace_runs.specs.Report.{turns_from, trace_turns}
-
-paused_on : (o : Outcome) → goes_on o ≡ true → o ≡ outcome.Paused
-paused_on outcome.Paused e = refl
-paused_on outcome.Ended e = absurd (let bad : false ≡ true = e in cc)
-paused_on (outcome.Trapped place trap) e = absurd (let bad : false ≡ true = e in cc)
-paused_on outcome.Over e = absurd (let bad : false ≡ true = e in cc)
+use Rattle.trace_runs.proofs.Advancing.{paused}
 
 abbrev turn_at : ℕ → Row → TickInput
 turn_at budget row = record { row = row; budget = budget }
@@ -29,7 +22,7 @@ turns_pause k budget s (row ∷ next ∷ rows) = by (goes_on (tick k budget s ro
   where
     by : (b : Bool) → goes_on (tick k budget s row).outcome ≡ b → AllButLastPause k (tick k budget s row).state (turns_from k budget (tick k budget s row).state (next ∷ rows)) →
         AllButLastPause k s (turn_at budget row ∷ (if b then turns_from k budget (tick k budget s row).state (next ∷ rows) else []))
-    by true e h = (paused_on (tick k budget s row).outcome e, h)
+    by true e h = (paused (tick k budget s row).outcome e, h)
     by false e h = tt
 
 pub trace_pauses : (limit : ℕ) (k : PlainKernel) (budget : ℕ) (bytes : List ℕ) → AllButLastPause k Fresh (trace_turns limit k budget bytes)

@@ -14,11 +14,12 @@ use Rattle.exchange_meaning.specs.Logged.{ExchangeLog}
 use Rattle.exchange_meaning.specs.Replays.{AgreesWholly, AllAgree, RunsTicks}
 use Rattle.exchange_meaning.proofs.Replayed.{replays_tell}
 use Rattle.exchange_meaning.proofs.Shaped.{same_as, tells_as}
-use Rattle.exchange_replay.specs.Rooted.{HasTickedAs}
+use Rattle.exchange_replay.specs.Rooted.{HasReplayed, HasTickedAs}
 use Rattle.exchange_replay.specs.declared.replayer.Replayer.{Replayer}
 use Rattle.log_text.specs.declared.log.Log.{Log}
 use Rattle.tick_jobs.specs.Outcomes.{HasOutputs, ComesTo}
 use Rattle.trace_runs.specs.Ticking.{tick_after}
+use Rattle.trace_runs.proofs.Running.{OnceMore}
 use Rattle.log_runs.specs.RootWalks.{IsHeldTo}
 
 went_so : (k : PlainKernel) (s : PlainShape) → s ≡ k.shape → (t : Tick) (r : Reply) (o : Outcome) (values : List ℤ) → MeansReply k t r → ComesTo s r o values →
@@ -35,6 +36,13 @@ pub ticked_so : (c : PlainCode) (l : Log) (k : PlainKernel) (log : ExchangeLog) 
     HasTickedAs c l log after turns turn o values → (o ≡ (tick_after k turns turn).outcome) × (HasOutputs o → values ≡ (tick_after k turns turn).outputs)
 ticked_so c l k log holds after turns turn o values t =
     went_so k c.shape holds.stands.shape (tick_after k turns turn) t.reply o values (replays_tell c k holds.valid holds.formed holds.stands log holds.each turns turn t.replayed.run t.reply t.last) t.comes
+
+-- whatever the ticks before it were
+pub once_replayed : (c : PlainCode) (l : Log) (k : PlainKernel) (log : ExchangeLog) → IsHeldTo c l k log → (before after : Replayer) (turn : TickInput) (o : Outcome) (values outputs : List ℤ) → outputs ≡ values →
+    ((turns : List TickInput) → HasReplayed c l log before turns → HasTickedAs c l log after turns turn o values) → OnceMore k (HasReplayed c l log before) (HasReplayed c l log after) turn o outputs
+once_replayed c l k log holds before after turn o values outputs same ticks =
+    let so = λ (turns : List TickInput) (f : HasReplayed c l log before turns). ticked_so c l k log holds after turns turn o values (ticks turns f) in
+    record { outcome = λ turns f. (so turns f).0; outputs = λ turns f has. same ∙ (so turns f).1 has; follows = λ turns f. (ticks turns f).replayed }
 
 -- ---- from a code to its kernel, and back
 

@@ -21,9 +21,10 @@ use Rattle.trace_runs.specs.declared.format.Format.{Format}
 use Rattle.trace_runs.specs.declared.format.Telling.TheVariants as telling
 use Rattle.trace_runs.proofs.Advancing.{run_on, run_stops}
 use Rattle.trace_runs.proofs.Told.{front_longer}
+use Rattle.exchange_meaning.proofs.OneMore.{pause_at}
 use Rattle.log_runs.specs.ReplayRuns.{AgreesText, IsReplay, Of_left, Of_same, Of_tick, difference_line, differing, replay_ok, ticks_told}
 use Rattle.log_runs.proofs.NextTick.{Found, nat_found}
-use Rattle.log_runs.proofs.NextTicks.{next_tick, pause_at}
+use Rattle.log_runs.proofs.NextTicks.{next_tick}
 use Rattle.log_runs.proofs.Pausing.{trace_pauses}
 
 -- ---- the lines of more ticks

@@ -7,7 +7,7 @@ use Rattle.forec_kernel.specs.Composed.{TickInput}
 use Rattle.forec_kernel.specs.Shapes.{PlainKernel}
 use Rattle.forec_kernel.specs.Ticks.{TickState, Tick, tick, goes_on, run_from}
 use Rattle.trace_rows.specs.Report.{rows_words, row_words}
-use Rattle.trace_rows.specs.Trace.{Row, Form, TraceEnd, Trace, next_form, onto, row_at}
+use Rattle.trace_rows.specs.Trace.{Row, Form, TraceEnd, Trace, form_after, next_form, onto, row_at, rows_from}
 use Rattle.trace_rows.specs.declared.fault.RowFault.{RowFault}
 use Rattle.trace_runs.specs.Formats.{before_words, after_words, last_written, format_after}
 use Rattle.trace_runs.specs.declared.format.Format.{Format}
@@ -161,3 +161,39 @@ advance_more limit how k budget form s n (first ∷ lines) p line row e h =
     ∙ ap (option_map (printed_before (tick_lines how budget n t)))
     (advance_more limit (format_after how t.outputs) k budget (next_form form w.row) t.state (n + 1) lines w.rest line row w.rest_is g)
     ∙ ap Some (printed_after k budget (tick_lines how budget n t) w.rest row)) h
+
+-- ---- the ticks over one line more
+
+row_first : (limit : ℕ) (form : Form) (n : ℕ) (line : List ℕ) (lines : List (List ℕ)) (row : Row) → row_at limit form n line ≡ Ok row →
+    rows_from limit form n (line ∷ lines) ≡ onto (Ok row) n (rows_from limit (next_form form row) (n + 1) lines)
+row_first limit form n line lines row e = ap (λ r. onto r n (rows_from limit (form_after form r) (n + 1) lines)) e
+
+abbrev turn_at : ℕ → Row → TickInput
+turn_at budget row = record { row = row; budget = budget }
+
+abbrev turns_in : ℕ → PlainKernel → ℕ → Form → TickState → ℕ → List (List ℕ) → List TickInput
+turns_in limit k budget form s n lines = turns_from k budget s (rows_from limit form n lines).rows
+
+turn_alone : (k : PlainKernel) (budget : ℕ) (s : TickState) (row : Row) → turns_from k budget s (row ∷ []) ≡ turn_at budget row ∷ []
+turn_alone k budget s row = by (goes_on (tick k budget s row).outcome)
+  where
+    by : (b : Bool) → turn_at budget row ∷ (if b then [] else []) ≡ turn_at budget row ∷ []
+    by true = refl
+    by false = refl
+
+pub turns_more : (limit : ℕ) (how : Format) (k : PlainKernel) (budget : ℕ) (form : Form) (s : TickState) (n : ℕ) (lines : List (List ℕ)) (p : Pace) (line : List ℕ) (row : Row) →
+    advance limit how k budget form s n lines ≡ Some p → row_at limit p.form p.next line ≡ Ok row →
+    turns_from k budget s (rows_from limit form n (lines ++ line ∷ [])).rows ≡ turns_from k budget s (rows_from limit form n lines).rows ++ record { row = row; budget = budget } ∷ []
+turns_more limit how k budget form s n [] p line row e h =
+    let same : record { state = s; next = n; form = form; format = how; bytes = [] } ≡ p = cc in
+    let is : row_at limit form n line ≡ Ok row = subst (λ (q : Pace). row_at limit q.form q.next line ≡ Ok row) (sym same) h in
+    ap (λ (t : Trace). turns_from k budget s t.rows) (row_first limit form n line [] row is) ∙ turn_alone k budget s row
+turns_more limit how k budget form s n (first ∷ lines) p line row e h =
+    let w = went_of limit how k budget form s n first lines p e in
+    let t = tick k budget s w.row in
+    let is : row_at limit w.rest.form w.rest.next line ≡ Ok row = subst (λ (q : Pace). row_at limit q.form q.next line ≡ Ok row) w.whole h in
+    let step : (ls : List (List ℕ)) → turns_in limit k budget form s n (first ∷ ls) ≡ turn_at budget w.row ∷ turns_in limit k budget (next_form form w.row) t.state (n + 1) ls =
+    λ ls. ap (λ (x : Trace). turns_from k budget s x.rows) (row_first limit form n first ls w.row w.goes.row_is) ∙ turns_on k budget s w.row (rows_from limit (next_form form w.row) (n + 1) ls).rows w.goes.on in
+    step (lines ++ line ∷ [])
+    ∙ ap (λ ts. turn_at budget w.row ∷ ts) (turns_more limit (format_after how t.outputs) k budget (next_form form w.row) t.state (n + 1) lines w.rest line row w.rest_is is)
+    ∙ ap (λ ts. ts ++ turn_at budget row ∷ []) (sym (step lines))

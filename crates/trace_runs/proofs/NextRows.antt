@@ -1,7 +1,7 @@
 -- What is found where the next row stands.
-use Rattle.std.proofs.Common.{◌≡◌, ◌≢◌, ℕ, ◌+◌, ◌<◌, false, List, Option, Some, None, Result, Ok, Err, refl}
+use Rattle.std.proofs.Common.{◌≡◌, ◌≢◌, ℕ, ◌+◌, ◌<◌, false, List, Option, Some, Result, Ok, Err, refl}
 use Rattle.trace_rows.specs.Calls.{IfTold}
-use Rattle.trace_rows.specs.Reader.{Reader, Takes, LacksLine, NextTakes, NextSays, NextLeaves, trace_ahead}
+use Rattle.trace_rows.specs.Reader.{Reader, Takes, NextTakes, NextSays, NextLeaves, trace_ahead}
 use Rattle.trace_rows.specs.Trace.{Row, next_form, row_at, row_width, stop, onto}
 use Rattle.trace_rows.specs.declared.fault.Next.{Next}
 use Rattle.trace_rows.specs.declared.fault.Next.TheVariants as next
@@ -21,17 +21,10 @@ pub record Gave (old new : Reader) (left_old left_new : Option (List ℕ)) (row 
   pub form : new.form ≡ next_form old.form row
   pub width : row_width new.form ≡ row_width old.form
 
--- what a call that looks for the next row says; it fails only where no whole line was held or came
-abbrev pub GivesNext : Reader → Reader → Option (List ℕ) → Option (List ℕ) → Row → Result Next RowFault → Type 0
-GivesNext old new left_old left_new row (Ok next.Row) = Gave old new left_old left_new row
-GivesNext old new left_old left_new row (Ok next.End) = IfTold left_old left_new (λ x y. trace_ahead old x ≡ stop None (old.given + 1))
-GivesNext old new left_old left_new row (Err fault.ReadFault) = LacksLine old.held new.held old.ended new.ended left_old left_new
-GivesNext old new left_old left_new row (Err fault.OutOfMemory) = ⊥
-GivesNext old new left_old left_new row (Err f) = IfTold left_old left_new (λ x y. trace_ahead old x ≡ stop (Some f) (old.given + 1))
-
-pub gives_next : (old new : Reader) (row_old row : Row) (a b : Option (List ℕ)) (r : Result Next RowFault) → NextTakes old new row a b r → IfTold a b (NextSays old new row r) → NextLeaves old new row_old row r →
-    new.limit ≡ old.limit → (new.ended ≡ false → old.ended ≡ false) → r ≢ Err fault.OutOfMemory → GivesNext old new a b row r
-gives_next old new row_old row a b (Ok next.Row) takes says leaves same stays not = record {
+-- what a call says that gave it
+pub gave_row : (old new : Reader) (row_old row : Row) (a b : Option (List ℕ)) → NextTakes old new row a b (Ok next.Row) → IfTold a b (NextSays old new row (Ok next.Row)) → NextLeaves old new row_old row (Ok next.Row) →
+    new.limit ≡ old.limit → (new.ended ≡ false → old.ended ≡ false) → Gave old new a b row
+gave_row old new row_old row a b takes says leaves same stays = record {
   line = takes.0;
   is = takes.1;
   takes = takes.2;
@@ -43,14 +36,12 @@ gives_next old new row_old row a b (Ok next.Row) takes says leaves same stays no
   form = leaves.3;
   width = leaves.4;
 }
-gives_next old new row_old row a b (Ok next.End) takes says leaves same stays not = says
-gives_next old new row_old row a b (Err fault.Bad) takes says leaves same stays not = says
-gives_next old new row_old row a b (Err fault.Long) takes says leaves same stays not = says
-gives_next old new row_old row a b (Err fault.Many) takes says leaves same stays not = says
-gives_next old new row_old row a b (Err fault.ReadFault) takes says leaves same stays not = takes
-gives_next old new row_old row a b (Err fault.OutOfMemory) takes says leaves same stays not = absurd (not refl)
 
--- the next line was a row
-pub gave_row : (old new : Reader) (row_old row : Row) (a b : Option (List ℕ)) → NextTakes old new row a b (Ok next.Row) → IfTold a b (NextSays old new row (Ok next.Row)) → NextLeaves old new row_old row (Ok next.Row) →
-    new.limit ≡ old.limit → (new.ended ≡ false → old.ended ≡ false) → Gave old new a b row
-gave_row old new row_old row a b takes says leaves same stays = gives_next old new row_old row a b (Ok next.Row) takes says leaves same stays (λ e. cc)
+-- what stands next is no row
+pub stops_there : (old new : Reader) (row : Row) (a b : Option (List ℕ)) (f : RowFault) → IfTold a b (NextSays old new row (Err f)) → f ≢ fault.ReadFault → ◌≢◌ {A = Result Next RowFault} (Err f) (Err fault.OutOfMemory) →
+    IfTold a b (λ x y. trace_ahead old x ≡ stop (Some f) (old.given + 1))
+stops_there old new row a b fault.Bad says read memory = says
+stops_there old new row a b fault.Long says read memory = says
+stops_there old new row a b fault.Many says read memory = says
+stops_there old new row a b fault.ReadFault says read memory = absurd (read refl)
+stops_there old new row a b fault.OutOfMemory says read memory = absurd (memory refl)

@@ -7,9 +7,9 @@ use Rattle.exchange_meaning.specs.Logged.{ExchangeLog}
 use Rattle.exchange_replay.specs.Rooted.{HasReplayed}
 use Rattle.log_text.specs.ReadLogs.{HasPairs}
 use Rattle.trace_runs.specs.Formats.{names_in}
-use Rattle.trace_runs.proofs.Running.{Reached, Stands_at}
+use Rattle.trace_runs.proofs.Asking.{Going}
+use Rattle.trace_runs.proofs.Running.{Stands_at}
 use Rattle.log_runs.specs.RootWalks.{IsHeldTo, RootRuns}
-use Rattle.log_runs.proofs.Alongside.{Along}
 use Rattle.log_runs.proofs.replaying.replay_rows.Given as goal
 
 abbrev pub invariant-ticks : goal.invariant-ticks
@@ -18,11 +18,9 @@ invariant-ticks g l =
     let held = g.K.Sink.held in
     let code = plain_code l.fn.code in
     record {
-      reached : (k : PlainKernel) (pairs : ExchangeLog) → IsHeldTo code l.fn.log k pairs → Reached (record { format = l.fn.session.waiting.format; kernel = k; budget = l.budget; first = l.fn.rows })
-          (HasReplayed code l.fn.log pairs l.replayer) l.rows (left l.fn.trace) (left l.trace) (held l.fn.out) (held l.out) l.session.waiting.bytes.items l.session.waiting.format l.row;
-      along : (k : PlainKernel) (pairs : ExchangeLog) → IsHeldTo code l.fn.log k pairs →
-          Along left g.S.Source.faults g.S.Source.down (RootRuns code pairs) (record { format = l.fn.session.waiting.format; kernel = k; budget = l.budget; first = l.fn.rows })
-          (HasReplayed code l.fn.log pairs l.replayer) l.rows (left l.fn.trace) (left l.trace) (held l.fn.out) (held l.out) l.session.waiting.bytes.items l.session.waiting.format l.row l.fn.trace l.trace;
+      going : (k : PlainKernel) (pairs : ExchangeLog) → IsHeldTo code l.fn.log k pairs →
+          Going left g.S.Source.faults g.S.Source.down (RootRuns code pairs) (record { format = l.fn.session.waiting.format; kernel = k; budget = l.budget; first = l.fn.rows })
+          (HasReplayed code l.fn.log pairs l.replayer) l.rows (held l.fn.out) (held l.out) l.session.waiting.bytes.items l.session.waiting.format l.row l.fn.trace l.trace;
       some : (pairs : ExchangeLog) → HasPairs code.shape l.fn.log pairs → (turns : List TickInput) × HasReplayed code l.fn.log pairs l.replayer turns;
       inputs : length l.session.image.inputs.items ≡ length l.fn.session.image.inputs.items;
       outputs : length l.session.image.outputs.items ≡ length l.fn.session.image.outputs.items;

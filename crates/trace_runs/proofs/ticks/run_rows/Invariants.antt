@@ -3,8 +3,8 @@ use Rattle.std.specs.Io.KnownBytes.{IsAtEnd}
 use Rattle.forec_kernel.specs.Shapes.{PlainKernel}
 use Rattle.trace_runs.specs.Formats.{names_in}
 use Rattle.trace_runs.specs.Ticking.{Starts}
-use Rattle.trace_runs.proofs.Asking.{Asked}
-use Rattle.trace_runs.proofs.Running.{Reached, Stands_at}
+use Rattle.trace_runs.proofs.Asking.{Going}
+use Rattle.trace_runs.proofs.Running.{Stands_at}
 use Rattle.trace_runs.proofs.ticks.run_rows.Given as goal
 
 abbrev pub invariant-ticks : goal.invariant-ticks
@@ -13,10 +13,8 @@ invariant-ticks g l =
     let held = g.K.Sink.held in
     let shape = g.T.Ticker.shape l.fn.ticker in
     record {
-      reached : (k : PlainKernel) → Starts shape (g.T.Ticker.follows l.fn.ticker) k → Reached (record { format = l.fn.session.waiting.format; kernel = k; budget = l.budget; first = l.fn.rows })
-          (g.T.Ticker.follows l.ticker k) l.rows (left l.fn.trace) (left l.trace) (held l.fn.out) (held l.out) l.session.waiting.bytes.items l.session.waiting.format l.row;
-      asked : (k : PlainKernel) → Starts shape (g.T.Ticker.follows l.fn.ticker) k → Asked left g.S.Source.faults g.S.Source.down (record { format = l.fn.session.waiting.format; kernel = k; budget = l.budget; first = l.fn.rows })
-          (g.T.Ticker.follows l.ticker k) l.rows l.row l.fn.trace l.trace;
+      going : (k : PlainKernel) → Starts shape (g.T.Ticker.follows l.fn.ticker) k → Going left g.S.Source.faults g.S.Source.down (λ turns. Unit {0}) (record { format = l.fn.session.waiting.format; kernel = k; budget = l.budget; first = l.fn.rows })
+          (g.T.Ticker.follows l.ticker k) l.rows (held l.fn.out) (held l.out) l.session.waiting.bytes.items l.session.waiting.format l.row l.fn.trace l.trace;
       shape : g.T.Ticker.shape l.ticker ≡ shape;
       ready : g.T.Ticker.ready l.ticker ≡ g.T.Ticker.ready l.fn.ticker;
       inputs : length l.session.image.inputs.items ≡ length l.fn.session.image.inputs.items;
