@@ -1,4 +1,4 @@
-use Rattle.std.proofs.Common.{◌≡◌, ◌+◌, List, ℕ, rules, length, ap, subst, ◌∙◌, refl, arith, ◌++◌, ◌∷◌, [], length-append}
+use Rattle.std.proofs.Common.{◌≡◌, ◌+◌, ◌-◌, List, ℕ, rules, length, ap, subst, ◌∙◌, refl, arith, ◌++◌, ◌∷◌, [], length-append}
 use Rattle.std.proofs.lemmas.List.{with_items_is, places}
 use Rattle.forec_kernel.specs.Shapes.{PlainKernel}
 use Rattle.forec_kernel.specs.Ticks.{goes_on}
