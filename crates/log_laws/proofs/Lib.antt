@@ -1,5 +1,6 @@
 mod Whole
 mod EveryFork
+mod LeftBy
 mod LogLists
 mod SomeLog
 mod EachRun
