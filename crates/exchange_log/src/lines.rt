@@ -13,6 +13,7 @@ use forec_kernel::{Shape, VarCopy};
 use itoa::Buffer;
 
 /// Puts bytes at a place, and says where they end.
+#[inline(always)]
 fn put(buffer: &mut [u8], at: usize, bytes: &[u8]) -> usize
     requires { at + length bytes.now ≤ length buffer.old }
     ensures end { result ≡ at + length bytes.now }
@@ -35,6 +36,22 @@ fn put_byte(buffer: &mut [u8], at: usize, byte: u8) -> usize
     at + 1
 }
 
+/// Puts a number of one digit or two at a place. Most numbers of a log are such.
+#[inline(always)]
+fn put_brief(buffer: &mut [u8], at: usize, number: u8) -> usize
+    requires brief { number < 100 }
+    requires room { at + 2 ≤ length buffer.old }
+    ensures within { result ≤ at + 2 }
+    ensures same_length { length buffer.new ≡ length buffer.old }
+    ensures front { take result buffer.new ≡ take at buffer.old ++ decimal number }
+{
+    if number < 10 {
+        return put_byte(buffer, at, b'0' + number);
+    }
+    let end = put_byte(buffer, at, b'0' + number / 10);
+    put_byte(buffer, end, b'0' + number % 10)
+}
+
 /// Puts a number at a place.
 fn put_number(buffer: &mut [u8], at: usize, number: u64) -> usize
     requires { at + 20 ≤ length buffer.old }
@@ -42,11 +59,15 @@ fn put_number(buffer: &mut [u8], at: usize, number: u64) -> usize
     ensures same_length { length buffer.new ≡ length buffer.old }
     ensures front { take result buffer.new ≡ take at buffer.old ++ decimal number }
 {
+    if number < 100 {
+        return put_brief(buffer, at, number as u8);
+    }
     let mut digits = Buffer::new();
     put(buffer, at, digits.format(number).as_bytes())
 }
 
 /// Puts a word and a number at a place.
+#[inline(always)]
 fn put_word(buffer: &mut [u8], at: usize, word: &[u8], number: u64) -> usize
     requires { at + (length word.now + 20) ≤ length buffer.old }
     ensures within { result ≤ at + (length word.now + 20) }
@@ -83,32 +104,19 @@ fn put_place(buffer: &mut [u8], at: usize, place: Place) -> usize
     put_byte(buffer, end, b' ')
 }
 
-/// Puts a space and number i of these at a place.
-fn put_value(buffer: &mut [u8], at: usize, numbers: &[i32], i: usize) -> usize
-    requires there { i < length numbers.now }
-    requires room { at + 12 ≤ length buffer.old }
+/// Puts a space and a number at a place.
+fn put_spaced(buffer: &mut [u8], at: usize, number: i32) -> usize
+    requires { at + 12 ≤ length buffer.old }
     ensures within { result ≤ at + 12 }
     ensures same_length { length buffer.new ≡ length buffer.old }
-    ensures front { take result buffer.new
-        ≡ take at buffer.old ++ (codes " " ++ signed_decimal (slice_index_or numbers.now i (pos 0))) }
+    ensures front { take result buffer.new ≡ take at buffer.old ++ (codes " " ++ signed_decimal number) }
 {
-    let mut digits = Buffer::new();
     let at = put_byte(buffer, at, b' ');
-    put(buffer, at, digits.format(numbers[i]).as_bytes())
-}
-
-/// Puts a space and the value of copy i of these at a place.
-fn put_copied(buffer: &mut [u8], at: usize, copies: &[VarCopy], i: usize) -> usize
-    requires there { i < length copies.now }
-    requires room { at + 12 ≤ length buffer.old }
-    ensures within { result ≤ at + 12 }
-    ensures same_length { length buffer.new ≡ length buffer.old }
-    ensures front { take result buffer.new
-        ≡ take at buffer.old ++ (codes " " ++ signed_decimal (slice_index_or copies.now i unset).value) }
-{
+    if number >= 0 && number < 100 {
+        return put_brief(buffer, at, number as u8);
+    }
     let mut digits = Buffer::new();
-    let at = put_byte(buffer, at, b' ');
-    put(buffer, at, digits.format(copies[i].value).as_bytes())
+    put(buffer, at, digits.format(number).as_bytes())
 }
 
 /// Puts copy i of these at a place, with a space before its value, and a star behind it where it is marked.
@@ -120,7 +128,7 @@ fn put_marked(buffer: &mut [u8], at: usize, copies: &[VarCopy], i: usize) -> usi
     ensures front { take result buffer.new
         ≡ take at buffer.old ++ marked_number (slice_index_or copies.now i unset) }
 {
-    let end = put_copied(buffer, at, copies, i);
+    let end = put_spaced(buffer, at, copies[i].value);
     if copies[i].modified {
         return put_byte(buffer, end, b'*');
     }
@@ -136,7 +144,7 @@ fn put_numbers(buffer: &mut [u8], at: usize, numbers: &[i32]) -> usize
 {
     let mut end = at;
     for i in 0..numbers.len() {
-        end = put_value(buffer, end, numbers, i);
+        end = put_spaced(buffer, end, numbers[i]);
     }
     end
 }
@@ -150,7 +158,7 @@ fn put_values(buffer: &mut [u8], at: usize, copies: &[VarCopy]) -> usize
 {
     let mut end = at;
     for i in 0..copies.len() {
-        end = put_copied(buffer, end, copies, i);
+        end = put_spaced(buffer, end, copies[i].value);
     }
     end
 }
@@ -230,6 +238,7 @@ pub fn put_reply(
 }
 
 /// Puts the line of a reply after which a branch rests, with this word.
+#[inline(always)]
 fn put_rest(buffer: &mut [u8], at: usize, word: &[u8], units: u64, copies: &[VarCopy]) -> usize
     requires short { length word.now ≤ 7 }
     requires room { at + (28 + 13 * length copies.now) ≤ length buffer.old }

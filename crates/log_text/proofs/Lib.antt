@@ -1,3 +1,4 @@
+pub mod BriefLemmas
 pub mod DigitLemmas
 pub mod DigitRuns
 pub mod PieceLemmas

@@ -1,6 +1,6 @@
 //! Numbers, decimal and without leading zeros.
 ghost use Rattle.std.specs.Prelude.{◌≡◌, ◌+◌, ◌*◌, ◌<◌, ◌≤◌, ◌^◌, ◌++◌, ℕ, ℤ, List, Some, length, drop, decimal, pos, neg_ℤ};
-ghost use Rattle.std.specs.Prelude.{IfSome, IsSomeAnd, SomeIff, FitsSigned};
+ghost use Rattle.std.specs.Prelude.{get_or, IfNone, IfSome, IsSomeAnd, SomeIff, FitsSigned};
 ghost use Rattle.std.specs.Fmt.{signed_decimal};
 ghost use Rattle.std.specs.Int.{w32};
 ghost use Rattle.log_text.specs.Pieces.{StandsTo, EndsDigits, IsDecimal};
@@ -63,6 +63,47 @@ pub fn digits_at(bytes: &[u8], at: usize) -> Option<Digits>
     Some(Digits { value, end })
 }
 
+/// The digit at a place, where there is one.
+#[inline(always)]
+fn digit_at(bytes: &[u8], at: usize) -> Option<u64>
+    ensures some { IfSome result (λ d. (d < 10) × (at < length bytes.now) × (get_or bytes.now at 0 ≡ 48 + d)) }
+    ensures none { IfNone result (EndsDigits (drop at bytes.now)) }
+{
+    if at < bytes.len() && bytes[at].is_ascii_digit() {
+        return Some(u64::from(bytes[at] - b'0'));
+    }
+    None
+}
+
+/// A number of one digit or two, where one stands there. Most values of a log are such.
+#[inline(always)]
+fn brief_at(bytes: &[u8], at: usize) -> Option<(u64, usize)>
+    ensures { IfSome result (λ x. (x.0 < 100) × IsNumberAt bytes.now at (decimal x.0) x.1) }
+{
+    let first = digit_at(bytes, at)?;
+    let Some(second) = digit_at(bytes, at + 1) else {
+        return Some((first, at + 1));
+    };
+    if first == 0 || digit_at(bytes, at + 2).is_some() {
+        return None;
+    }
+    Some((10 * first + second, at + 2))
+}
+
+/// Reads a number of at most 64 bits.
+fn word_at(bytes: &[u8], at: usize) -> Option<(u64, usize)>
+    requires { at ≤ length bytes.now }
+    ensures stands { IfSome result (λ x. IsNumberAt bytes.now at (decimal x.0) x.1) }
+    ensures only { (n : ℕ) (rest : List ℕ) → n < 2 ^ 64 → EndsDigits rest → drop at bytes.now ≡ decimal n ++ rest
+        → IsSomeAnd result (λ x. (x.0 ≡ n) × (drop x.1 bytes.now ≡ rest)) }
+{
+    if let Some((value, end)) = brief_at(bytes, at) {
+        return Some((value, end));
+    }
+    let digits = digits_at(bytes, at)?;
+    Some((digits.value?, digits.end))
+}
+
 /// Reads a number of at most `limit`.
 pub fn number_at(bytes: &[u8], at: usize, limit: u64) -> Option<(u64, usize)>
     requires { at ≤ length bytes.now }
@@ -70,12 +111,11 @@ pub fn number_at(bytes: &[u8], at: usize, limit: u64) -> Option<(u64, usize)>
     ensures only { (n : ℕ) (rest : List ℕ) → n ≤ limit → EndsDigits rest → drop at bytes.now ≡ decimal n ++ rest
         → IsSomeAnd result (λ x. (x.0 ≡ n) × (drop x.1 bytes.now ≡ rest)) }
 {
-    let digits = digits_at(bytes, at)?;
-    let value = digits.value?;
+    let (value, end) = word_at(bytes, at)?;
     if value > limit {
         return None;
     }
-    Some((value, digits.end))
+    Some((value, end))
 }
 
 fn negated(magnitude: u64) -> i32
