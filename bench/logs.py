@@ -2,8 +2,9 @@
 the ticks, with few threads and with many."""
 import os
 import random
+import statistics
 
-from measure import ROOT, beside, best, gen_text, robot_trace, row, run, written
+from measure import ROOT, beside, gen_text, robot_trace, row, run, written
 
 TICKS = 50_000
 PART_OF_RUN = 0.3  # of the speed of `run`
@@ -41,8 +42,8 @@ def robot(program, scratch):
 
 
 def tenfold(program, scratch):
-    """Ten times the ticks, with 2 threads and with 200: as many as a log has room for, and a tenth of them. What no tick takes counts for
-    neither."""
+    """Ten times the ticks, with 2 threads and with 200: as many as a log has room for, and a tenth of them, in turn. What no tick takes
+    counts for neither."""
     missed = 0
     for threads, ticks, content in ((2, 170_000, PAIR), (200, 1_700, gen_text(200))):
         text = written(scratch, f"{threads}.forec", content)
@@ -50,10 +51,11 @@ def tenfold(program, scratch):
         made = [log_of(program, scratch, f"{threads}-{at}", text, trace) for at, trace in enumerate(traces)]
         for command in ("log", "replay"):
             words = [[program, command, text, *([log] if command == "replay" else [])] for log in made]
-            none, few, many = (best(each, trace, os.devnull, 7) for each, trace in zip(words, traces))
-            once, ten = few - none, many - none
-            row(f"{command}, {threads} threads, {ticks:,} ticks", f"{ten * 1000:.0f} ms", f"{ticks // 10:,} ticks: {once * 1000:.1f} ms", f"{ten / once:.1f}")
-            missed += ten / once > MOST_OF_TEN_TIMES
+            rounds = [[run(each, trace, os.devnull) for each, trace in zip(words, traces)] for _ in range(15)]
+            once, ten = (statistics.median(of[at] - of[0] for of in rounds) for at in (1, 2))
+            ratio = statistics.median((many - none) / (few - none) for none, few, many in rounds)
+            row(f"{command}, {threads} threads, {ticks:,} ticks", f"{ten * 1000:.0f} ms", f"{ticks // 10:,} ticks: {once * 1000:.1f} ms", f"{ratio:.1f}")
+            missed += ratio > MOST_OF_TEN_TIMES
     return missed
 
 

@@ -119,6 +119,30 @@ fn put_spaced(buffer: &mut [u8], at: usize, number: i32) -> usize
     put(buffer, at, digits.format(number).as_bytes())
 }
 
+/// Puts a space and number i of these at a place.
+fn put_value(buffer: &mut [u8], at: usize, numbers: &[i32], i: usize) -> usize
+    requires there { i < length numbers.now }
+    requires room { at + 12 ≤ length buffer.old }
+    ensures within { result ≤ at + 12 }
+    ensures same_length { length buffer.new ≡ length buffer.old }
+    ensures front { take result buffer.new
+        ≡ take at buffer.old ++ (codes " " ++ signed_decimal (slice_index_or numbers.now i (pos 0))) }
+{
+    put_spaced(buffer, at, numbers[i])
+}
+
+/// Puts a space and the value of copy i of these at a place.
+fn put_copied(buffer: &mut [u8], at: usize, copies: &[VarCopy], i: usize) -> usize
+    requires there { i < length copies.now }
+    requires room { at + 12 ≤ length buffer.old }
+    ensures within { result ≤ at + 12 }
+    ensures same_length { length buffer.new ≡ length buffer.old }
+    ensures front { take result buffer.new
+        ≡ take at buffer.old ++ (codes " " ++ signed_decimal (slice_index_or copies.now i unset).value) }
+{
+    put_spaced(buffer, at, copies[i].value)
+}
+
 /// Puts copy i of these at a place, with a space before its value, and a star behind it where it is marked.
 fn put_marked(buffer: &mut [u8], at: usize, copies: &[VarCopy], i: usize) -> usize
     requires there { i < length copies.now }
@@ -128,7 +152,7 @@ fn put_marked(buffer: &mut [u8], at: usize, copies: &[VarCopy], i: usize) -> usi
     ensures front { take result buffer.new
         ≡ take at buffer.old ++ marked_number (slice_index_or copies.now i unset) }
 {
-    let end = put_spaced(buffer, at, copies[i].value);
+    let end = put_copied(buffer, at, copies, i);
     if copies[i].modified {
         return put_byte(buffer, end, b'*');
     }
@@ -144,7 +168,7 @@ fn put_numbers(buffer: &mut [u8], at: usize, numbers: &[i32]) -> usize
 {
     let mut end = at;
     for i in 0..numbers.len() {
-        end = put_spaced(buffer, end, numbers[i]);
+        end = put_value(buffer, end, numbers, i);
     }
     end
 }
@@ -158,7 +182,7 @@ fn put_values(buffer: &mut [u8], at: usize, copies: &[VarCopy]) -> usize
 {
     let mut end = at;
     for i in 0..copies.len() {
-        end = put_spaced(buffer, end, copies[i].value);
+        end = put_copied(buffer, end, copies, i);
     }
     end
 }

@@ -11,7 +11,7 @@ loop-i-preserved c =
     let ns = c.args.copies.now in
     let i = c.loop-i.i in
     let inv = c.loop-i.invariant in
-    let call = c.put_spaced-end in
+    let call = c.put_copied-end in
     record {
       room = omega (arith, inv.room, call.ensures.within);
       same_length = call.ensures.same_length ∙ inv.same_length;
