@@ -2,7 +2,8 @@
 use Rattle.std.proofs.Common.{◌≡◌, ℕ, Bool, List, Option, refl, sym, subst}
 use Rattle.std.specs.Io.KnownBytes.{Appends}
 use Rattle.forec_base.specs.Outside.{Fell}
-use Rattle.dump_report.specs.Calls.{AddsFront, TellsReport}
+use Rattle.whole_writes.specs.Calls.{AppendsFront}
+use Rattle.dump_report.specs.Calls.{TellsReport}
 use Rattle.dump_report.specs.Ends.{EndsReport}
 use Rattle.dump_report.specs.Told.{ToldReport}
 use Rattle.dump_report.specs.declared.status.DumpStatus.{DumpStatus}
@@ -30,7 +31,7 @@ module _ {K : Type 0} (held : K → Option (List ℕ)) (faults : K → ℕ) (dow
   }
 
   -- the sink failed
-  pub tells_front : Fell (faults old) (faults new) (down new) → AddsFront (held old) (held new) r.bytes → TellsReport held faults down r old new status.WriteFault
+  pub tells_front : Fell (faults old) (faults new) (down new) → AppendsFront (held old) (held new) r.bytes → TellsReport held faults down r old new status.WriteFault
   tells_front f h = record { own = λ own. absurd own; write = λ _. (f, h); memory = λ e. cc }
 
 -- memory ran out

@@ -7,12 +7,11 @@ use Rattle.std.proofs.Math.Seq.{take-append-add}
 use Rattle.std.proofs.lemmas.List.{take_all, take-append-drop, take-append-le, length-take-le}
 use Rattle.std.proofs.lemmas.Slice.{take-put_mid}
 use borrow.Rule.Slice.PartMut.{put_mid}
-use Rattle.dump_report.specs.Calls.{AddsFront, Sends}
+use Rattle.whole_writes.specs.Calls.{AppendsFront}
+use Rattle.whole_writes.proofs.Appending.{appends_refl, appends_both, front_longer, front_behind}
+use Rattle.dump_report.specs.Calls.{Sends}
 
 -- ---- parts of a list
-
-pub range_rest : (at : ℕ) (xs : List ℕ) → slice_range xs at (length xs) ≡ drop at xs
-range_rest at xs = take_all (length xs - at) (drop at xs) (omega (arith, length-drop at xs))
 
 pub range_front : (n : ℕ) (xs : List ℕ) → slice_range xs 0 n ≡ take n xs
 range_front n xs = ap (λ k. take k xs) (sub-zero n)
@@ -42,34 +41,6 @@ on_err (Err e) P Q h f = f h
 pub err_holds : {T E : Type 0} (r : Result T E) (P : Type 0) → P → OnErr r P
 err_holds (Ok v) P h = tt
 err_holds (Err e) P h = h
-
--- ---- one call after the other
-
-appends_nothing : (a b : Option (List ℕ)) → Keeps a b → Appends a b []
-appends_nothing None b h = tt
-appends_nothing (Some x) None h = h
-appends_nothing (Some x) (Some y) h = h ∙ sym (append-nil x)
-
-pub appends_refl : (a : Option (List ℕ)) → Appends a a []
-appends_refl None = tt
-appends_refl (Some x) = sym (append-nil x)
-
-pub appends_both : (a b c : Option (List ℕ)) (x y : List ℕ) → Appends a b x → Appends b c y → Appends a c (x ++ y)
-appends_both None b c x y h k = tt
-appends_both (Some s) None c x y h k = absurd h
-appends_both (Some s) (Some t) None x y h k = k
-appends_both (Some s) (Some t) (Some u) x y h k = k ∙ ap (λ r. r ++ y) h ∙ append_assoc s x y
-
--- after a fault what was written before it is a front
-pub front_kept : (a b c : Option (List ℕ)) (x y all : List ℕ) → all ≡ x ++ y → Appends a b x → Keeps b c → AddsFront a c all
-front_kept a b c x y all e h k =
-    (x, y, e, subst (Appends a c) (append-nil x) (appends_both a b c x [] h (appends_nothing b c k)))
-
-pub front_longer : (a b : Option (List ℕ)) (x more : List ℕ) → AddsFront a b x → AddsFront a b (x ++ more)
-front_longer a b x more f = (f.0, f.1 ++ more, ap (λ r. r ++ more) f.2 ∙ append_assoc f.0 f.1 more, f.3)
-
-front_behind : (a b c : Option (List ℕ)) (x y : List ℕ) → Appends a b x → AddsFront b c y → AddsFront a c (x ++ y)
-front_behind a b c x y h f = (x ++ f.0, f.1, ap (λ r. x ++ r) f.2 ∙ sym (append_assoc x f.0 f.1), appends_both a b c x f.0 h f.3)
 
 -- ---- where some bytes wait
 
@@ -114,13 +85,13 @@ pub sends_all : (a b c : Option (List ℕ)) (all waiting : List ℕ) → Sends a
 sends_all a b c all waiting s h = subst (Appends a c) (sym s.whole) (appends_both a b c s.sent waiting s.appended h)
 
 -- a front of what waits is written
-pub sends_front : (a b c : Option (List ℕ)) (all waiting rest : List ℕ) → Sends a b all (waiting ++ rest) → AddsFront b c waiting → AddsFront a c all
+pub sends_front : (a b c : Option (List ℕ)) (all waiting rest : List ℕ) → Sends a b all (waiting ++ rest) → AppendsFront b c waiting → AppendsFront a c all
 sends_front a b c all waiting rest s f =
-    subst (AddsFront a c) (sym (s.whole ∙ sym (append_assoc s.sent waiting rest))) (front_longer a c (s.sent ++ waiting) rest (front_behind a b c s.sent waiting s.appended f))
+    subst (AppendsFront a c) (sym (s.whole ∙ sym (append_assoc s.sent waiting rest))) (front_longer a c (s.sent ++ waiting) rest (front_behind a b c s.sent waiting s.appended f))
 
 -- the same of the last bytes
-pub last_front : (a b c : Option (List ℕ)) (all waiting : List ℕ) → Sends a b all waiting → AddsFront b c waiting → AddsFront a c all
-last_front a b c all waiting s f = subst (AddsFront a c) (sym s.whole) (front_behind a b c s.sent waiting s.appended f)
+pub last_front : (a b c : Option (List ℕ)) (all waiting : List ℕ) → Sends a b all waiting → AppendsFront b c waiting → AppendsFront a c all
+last_front a b c all waiting s f = subst (AppendsFront a c) (sym s.whole) (front_behind a b c s.sent waiting s.appended f)
 
 -- some of what waits is written, and then last bytes wait too
 pub sends_closing : (a b c : Option (List ℕ)) (all waiting left last bytes : List ℕ) → Sends a b all waiting → Sends b c waiting left → bytes ≡ left ++ last → Sends a c (all ++ last) bytes

@@ -2,7 +2,7 @@
 ghost use Rattle.std.specs.Prelude.{◌≡◌, length};
 ghost use Rattle.std.specs.Io.KnownBytes.{Appends};
 ghost use Rattle.forec_base.specs.Outside.{Fell};
-ghost use Rattle.dump_report.specs.Calls.{AddsFront};
+ghost use Rattle.whole_writes.specs.Calls.{AppendsFront};
 ghost use Rattle.dump_report.specs.Ends.{EndsReport};
 ghost use Rattle.dump_report.specs.Told.{dump_report};
 
@@ -28,7 +28,7 @@ pub fn tell<K: Sink>(alloc: Global, text: &[u8], out: &mut K) -> DumpStatus
 
     // The sink failed. What was written is a front of the report.
     ensures write { result ≡ DumpStatus.WriteFault → Fell (K.faults out.old) (K.faults out.new) (K.down out.new)
-        × AddsFront (K.held out.old) (K.held out.new) (dump_report text.now).bytes }
+        × AppendsFront (K.held out.old) (K.held out.new) (dump_report text.now).bytes }
 
     // Where memory ran out, the sink wasn't called.
     ensures memory { result ≡ DumpStatus.NoMemory → out.new ≡ out.old }

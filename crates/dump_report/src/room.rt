@@ -2,11 +2,12 @@
 ghost use Rattle.std.specs.Prelude.{◌≡◌, ◌≤◌, ◌+◌, ◌^◌, ◌-◌, ◌++◌, length, take, min, codes, IfOk, OnErr};
 ghost use Rattle.trace_rows.specs.Calls.{Faults};
 ghost use Rattle.trace_rows.specs.Report.{tick_line, tick_room};
-ghost use Rattle.dump_report.specs.Calls.{AddsFront, Sends};
+ghost use Rattle.whole_writes.specs.Calls.{AppendsFront};
+ghost use Rattle.dump_report.specs.Calls.{Sends};
 
-use crate::sending::send;
 use forec_base::{Failed, Labels, Sink};
 use trace_rows::line;
+use whole_writes::write_all;
 
 /// Writes what waits where fewer than so many bytes of the room are left: its first `end` bytes. Gives how many wait
 /// then. At an `Err` a front of them is written.
@@ -21,13 +22,13 @@ pub fn make_room<K: Sink>(
     ensures fits { IfOk result (λ next. next + most ≤ length room.now) }
     ensures ok { IfOk result (λ next. Sends (K.held out.old) (K.held out.new)
         (take end room.now) (take next room.now)) }
-    ensures err { OnErr result (AddsFront (K.held out.old) (K.held out.new) (take end room.now)) }
+    ensures err { OnErr result (AppendsFront (K.held out.old) (K.held out.new) (take end room.now)) }
     ensures cause { Faults (K.faults out.old) (K.faults out.new) (K.down out.new) result }
 {
     if most <= room.len() - end {
         return Ok(end);
     }
-    match send(out, &room[..end]) {
+    match write_all(out, &room[..end]) {
         Ok(()) => Ok(0),
         Err(failed) => Err(failed),
     }

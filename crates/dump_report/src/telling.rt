@@ -6,16 +6,17 @@ ghost use Rattle.trace_rows.specs.Calls.{Faults};
 ghost use Rattle.trace_rows.specs.Report.{tick_room};
 ghost use Rattle.wave_dump.specs.Wave.{AreValues, IsDump};
 ghost use Rattle.wave_dump.specs.Dumps.{plain_dump, plain_ticks};
-ghost use Rattle.dump_report.specs.Calls.{AddsFront, Sends, TellsReport};
+ghost use Rattle.whole_writes.specs.Calls.{AppendsFront};
+ghost use Rattle.dump_report.specs.Calls.{Sends, TellsReport};
 ghost use Rattle.dump_report.specs.Told.{told_report, told_lines, told_ticks};
 
 use crate::room::{make_room, put_ending, put_tick};
-use crate::sending::send;
 use crate::status::DumpStatus;
 use forec_base::{Failed, Labels, Sink};
 use std::alloc::Global;
 use trace_rows::line_room;
 use wave_dump::Dump;
+use whole_writes::write_all;
 
 /// What is written at once where many lines wait.
 const PIECE: usize = 65536;
@@ -35,7 +36,7 @@ fn tell_ticks<K: Sink>(
     ensures within { IfOk result (λ end. end ≤ length room.old) }
     ensures ok { IfOk result (λ end. Sends (K.held out.old) (K.held out.new)
         (told_ticks 1 names.now (plain_ticks ticks.now)) (take end room.new)) }
-    ensures err { OnErr result (AddsFront (K.held out.old) (K.held out.new)
+    ensures err { OnErr result (AppendsFront (K.held out.old) (K.held out.new)
         (told_ticks 1 names.now (plain_ticks ticks.now))) }
     ensures cause { Faults (K.faults out.old) (K.faults out.new) (K.down out.new) result }
 {
@@ -56,13 +57,13 @@ fn tell_lines<K: Sink>(dump: &Dump, most: usize, room: &mut [u8], out: &mut K) -
     requires ending { length dump.now.ending.items + 1 ≤ most }
     requires ample { most ≤ length room.old }
     ensures ok { OnOk result (Appends (K.held out.old) (K.held out.new) (told_lines (plain_dump dump.now))) }
-    ensures err { OnErr result (AddsFront (K.held out.old) (K.held out.new) (told_lines (plain_dump dump.now))) }
+    ensures err { OnErr result (AppendsFront (K.held out.old) (K.held out.new) (told_lines (plain_dump dump.now))) }
     ensures cause { Faults (K.faults out.old) (K.faults out.new) (K.down out.new) result }
 {
     let waiting = tell_ticks(&dump.names, &dump.ticks, most, room, out)?;
     let left = make_room(room, waiting, most, out)?;
     let end = put_ending(room, left, &dump.ending);
-    send(out, &room[..end])
+    write_all(out, &room[..end])
 }
 
 /// Writes what a dump tells. All memory that it takes is taken before the first byte is written.

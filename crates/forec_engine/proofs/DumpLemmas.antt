@@ -4,7 +4,7 @@ use Rattle.std.specs.Option.{IfSome}
 use Rattle.std.specs.Io.KnownBytes.{Appends}
 use Rattle.forec_base.specs.Outside.{Fell}
 use Rattle.forec_base.specs.declared.limits.TheConstants.{MAX_TEXT_BYTES}
-use Rattle.dump_report.specs.Calls.{AddsFront}
+use Rattle.whole_writes.specs.Calls.{AppendsFront}
 use Rattle.dump_report.specs.Ends.{EndsReport}
 use Rattle.dump_report.specs.Told.{ToldReport, dump_report, refused_long}
 use Rattle.dump_report.specs.declared.status.DumpStatus.{DumpStatus}
@@ -30,7 +30,7 @@ dump_never text = by (dump_report text).status
 module _ {K : Type 0} (held : K → Option (List ℕ)) (faults : K → ℕ) (down : K → Bool) (text : List ℕ) (old new : K) where
   -- a text was told
   pub said : (end : DumpStatus) → (EndsReport end → (end ≡ (dump_report text).status) × Appends (held old) (held new) (dump_report text).bytes) →
-      (end ≡ dump.WriteFault → Fell (faults old) (faults new) (down new) × AddsFront (held old) (held new) (dump_report text).bytes) → (end ≡ dump.NoMemory → new ≡ old) →
+      (end ≡ dump.WriteFault → Fell (faults old) (faults new) (down new) × AppendsFront (held old) (held new) (dump_report text).bytes) → (end ≡ dump.NoMemory → new ≡ old) →
       PrintsReport held faults down (dump_printed text) ⊥ old new (status_of_dump end)
   said dump.Done own write memory =
       let o = own tt in

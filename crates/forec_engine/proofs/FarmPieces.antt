@@ -10,8 +10,8 @@ use Rattle.std.proofs.lemmas.Simd.{get_or-zip2, length-zip2}
 use Rattle.forec_base.specs.Outside.{Rose, Fell}
 use Rattle.trace_farm.specs.Farm.{NumberedReport, plain_report}
 use Rattle.trace_farm.specs.declared.farm_report.FarmReport.{FarmReport}
-use Rattle.trace_runs.specs.Calls.{AppendsFront}
-use Rattle.trace_runs.proofs.Told.{appends_both, front_longer, front_behind}
+use Rattle.whole_writes.specs.Calls.{AppendsFront}
+use Rattle.whole_writes.proofs.Appending.{appends_both, front_longer, front_behind}
 use Rattle.forec_engine.specs.Farms.{trace_group}
 use Rattle.forec_engine.specs.Farming.{told_as, told_all}
 

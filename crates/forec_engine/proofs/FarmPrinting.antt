@@ -16,7 +16,7 @@ use Rattle.trace_farm.specs.Farm.{NumberedReport, with_number, plain_report, rep
 use Rattle.trace_farm.specs.declared.farm_report.FarmReport.{FarmReport}
 use Rattle.trace_rows.specs.Trace.{TraceEnd, trace_of}
 use Rattle.trace_rows.specs.declared.fault.RowFault.{RowFault}
-use Rattle.trace_runs.specs.Calls.{AppendsFront}
+use Rattle.whole_writes.specs.Calls.{AppendsFront}
 use Rattle.trace_runs.specs.Ends.{IsOwn}
 use Rattle.trace_runs.specs.KernelNames.{input_names, run_format}
 use Rattle.trace_runs.specs.declared.format.Format.{Format}

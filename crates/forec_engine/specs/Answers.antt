@@ -9,7 +9,7 @@ use Rattle.forec_engine.specs.Budgets.{budget_for}
 use Rattle.forec_engine.specs.Commands.{AcceptedReport, CommandReport, TextReport, IsReport, TellsTrace, TellsNamed, IsKnown}
 use Rattle.forec_engine.specs.Ends.{WantedByText, WantedByWords, ReadForText, ReadForWords, CommandIsMisused, FoldedIsMisused, AcceptedSo, IsMisuse, NameText, AskForRewriting, Rewrites, running_in, telling_in}
 use Rattle.forec_engine.specs.Placing.{misplacing}
-use Rattle.trace_runs.specs.Calls.{AppendsFront}
+use Rattle.whole_writes.specs.Calls.{AppendsFront}
 use Rattle.trace_runs.specs.Ends.{IsOwn, Given, Wanted, ReadFor}
 use Rattle.trace_runs.specs.KernelNames.{run_format}
 use Rattle.trace_runs.specs.Prints.{Prints}

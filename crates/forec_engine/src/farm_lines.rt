@@ -3,34 +3,19 @@ ghost use Rattle.std.specs.Prelude.{map, OnOk, OnErr};
 ghost use Rattle.std.specs.List.{concat};
 ghost use Rattle.std.specs.Io.KnownBytes.{Appends};
 ghost use Rattle.trace_rows.specs.Calls.{Faults};
-ghost use Rattle.trace_runs.specs.Calls.{AppendsFront};
+ghost use Rattle.whole_writes.specs.Calls.{AppendsFront};
 ghost use Rattle.forec_engine.specs.Farms.{trace_group};
 ghost use Rattle.forec_engine.specs.Farming.{plain_told};
 
 use forec_base::{Failed, Sink};
 use itoa::Buffer;
+use whole_writes::write_all;
 
 /// What is told of a trace: the bytes of its report, and the number of its status.
 #[derive(Clone, Copy)]
 pub struct Told<'a> {
     pub bytes: &'a [u8],
     pub status: u32,
-}
-
-/// Writes all of the bytes. At an `Err` a front of them is written.
-fn write_all<K: Sink>(out: &mut K, bytes: &[u8]) -> Result<(), Failed>
-    ensures ok { OnOk result (Appends (K.held out.old) (K.held out.new) bytes.now) }
-    ensures err { OnErr result (AppendsFront (K.held out.old) (K.held out.new) bytes.now) }
-    ensures cause { Faults (K.faults out.old) (K.faults out.new) (K.down out.new) result }
-{
-    let mut at = 0;
-    while at < bytes.len() {
-        match out.write(&bytes[at..]) {
-            Ok(n) => at += n,
-            Err(failed) => return Err(failed),
-        }
-    }
-    Ok(())
 }
 
 /// Writes these pieces, one after the other. At an `Err` a front of them is written.

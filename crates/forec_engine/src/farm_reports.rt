@@ -3,7 +3,7 @@ ghost use Rattle.std.specs.Prelude.{◌≡◌, List, map, length, string_bytes, 
 ghost use Rattle.std.specs.Io.KnownBytes.{Appends};
 ghost use Rattle.trace_farm.specs.Farm.{plain_report};
 ghost use Rattle.trace_rows.specs.Calls.{Faults};
-ghost use Rattle.trace_runs.specs.Calls.{AppendsFront};
+ghost use Rattle.whole_writes.specs.Calls.{AppendsFront};
 ghost use Rattle.trace_runs.specs.StatusNumbers.{status_number};
 ghost use Rattle.trace_runs.specs.declared.status.Status.{Status};
 ghost use Rattle.forec_engine.specs.Farms.{groups, worst};

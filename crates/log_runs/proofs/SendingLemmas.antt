@@ -2,8 +2,8 @@
 use Rattle.std.proofs.Common.{◌≡◌, ℕ, List, [], ◌++◌, Option, Result, Ok, Err, refl, sym, ap, subst, ◌∙◌, append_assoc, append-nil}
 use Rattle.std.specs.Result.{OnErr}
 use Rattle.std.specs.Io.KnownBytes.{Appends}
-use Rattle.trace_runs.specs.Calls.{AppendsFront}
-use Rattle.trace_runs.proofs.Told.{appends_both, appends_refl, front_behind, front_longer}
+use Rattle.whole_writes.specs.Calls.{AppendsFront}
+use Rattle.whole_writes.proofs.Appending.{appends_both, appends_refl, front_behind, front_longer}
 use Rattle.log_runs.specs.Sending.{SendsBehind}
 
 -- nothing was sent

@@ -16,7 +16,7 @@ use Rattle.exchange_log.specs.Posted.{IsAnswered, log_in, log_words}
 use Rattle.log_runs.specs.Logging.{CanTellLog}
 use Rattle.log_runs.specs.RunLogs.{IsLogReport, Of_kept, Of_full, log_full, logged_report}
 use Rattle.log_runs.specs.declared.logging.TheConstants.{LOG_WORDS}
-use Rattle.trace_runs.specs.Calls.{AppendsFront}
+use Rattle.whole_writes.specs.Calls.{AppendsFront}
 use Rattle.trace_runs.specs.Ends.{IsOwn}
 use Rattle.trace_runs.specs.Prints.{Prints, PrintsReport}
 use Rattle.trace_runs.specs.declared.status.Status.{Status}

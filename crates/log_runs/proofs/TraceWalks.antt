@@ -18,7 +18,8 @@ use Rattle.trace_runs.specs.Report.{Report, trace_report, trace_turns}
 use Rattle.trace_runs.specs.declared.format.Format.{Format}
 use Rattle.trace_runs.specs.declared.status.Status.{Status}
 use Rattle.trace_runs.specs.declared.status.Status.TheVariants as status
-use Rattle.trace_runs.proofs.Told.{appends_refl, some_map}
+use Rattle.whole_writes.proofs.Appending.{appends_refl}
+use Rattle.trace_runs.proofs.Told.{some_map}
 use Rattle.log_runs.specs.RootWalks.{EndsBy, GivenRuns, HasWalked, MayRead, WalkedTo}
 use Rattle.log_runs.specs.declared.replaying.Walked.{Walked}
 use Rattle.log_runs.specs.declared.replaying.Walked.TheVariants as walked

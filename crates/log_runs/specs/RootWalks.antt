@@ -17,7 +17,7 @@ use Rattle.exchange_replay.specs.Rooted.{CannotTick}
 use Rattle.trace_rows.specs.Lines.{whole_lines}
 use Rattle.trace_rows.specs.Reader.{Reader}
 use Rattle.trace_rows.specs.Trace.{Form, rows_from}
-use Rattle.trace_runs.specs.Calls.{AppendsFront}
+use Rattle.whole_writes.specs.Calls.{AppendsFront}
 use Rattle.trace_runs.specs.Ends.{GoesOn, IsOwn}
 use Rattle.trace_runs.specs.Formats.{opening}
 use Rattle.trace_runs.specs.Progress.{GoesOnFrom}

@@ -1,11 +1,11 @@
 //! Bytes that are sent in large pieces.
 ghost use Rattle.std.specs.Prelude.{◌≡◌, ◌+◌, ◌≤◌, ◌++◌, [], length, vec_len, vec_capacity, OnOk, OnErr};
 ghost use Rattle.trace_rows.specs.Calls.{Faults};
-ghost use Rattle.trace_runs.specs.Calls.{AppendsFront};
+ghost use Rattle.whole_writes.specs.Calls.{AppendsFront};
 ghost use Rattle.log_runs.specs.Sending.{SendsBehind, HasSpace};
 
 use forec_base::{Failed, Sink};
-use trace_runs::write_all;
+use whole_writes::write_all;
 
 /// Adds bytes for which there is room.
 pub fn append(to: &mut Vec<u8>, bytes: &[u8])

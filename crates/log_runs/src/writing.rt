@@ -5,7 +5,7 @@ ghost use Rattle.exchange_meaning.specs.LogLines.{log_text, thread_log_lines};
 ghost use Rattle.exchange_log.specs.Lines.{pair_lines};
 ghost use Rattle.exchange_log.specs.Posted.{log_in};
 ghost use Rattle.trace_rows.specs.Calls.{Faults};
-ghost use Rattle.trace_runs.specs.Calls.{AppendsFront};
+ghost use Rattle.whole_writes.specs.Calls.{AppendsFront};
 ghost use Rattle.log_runs.specs.Logging.{CanTellLog};
 ghost use Rattle.log_runs.specs.declared.writing.TheConstants.{HEAD_ROOM};
 ghost use Rattle.log_runs.specs.Sending.{HasSpace, SendsBehind, head_line};
@@ -17,7 +17,7 @@ use exchange_log::{LogPort, PairPlace};
 use forec_base::{Failed, OutOfMemory, Sink};
 use itoa::Buffer;
 use std::alloc::Global;
-use trace_runs::write_all;
+use whole_writes::write_all;
 
 /// What is sent at once where many lines wait.
 const PIECE: usize = 65536;

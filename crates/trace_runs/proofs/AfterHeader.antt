@@ -12,7 +12,7 @@ use Rattle.trace_runs.specs.Formats.{opening, last_written}
 use Rattle.trace_rows.specs.SourceReads.{ReadsBytes, Reading, StartTook}
 use Rattle.trace_rows.specs.declared.fault.RowFault.{RowFault}
 use Rattle.trace_rows.specs.declared.fault.RowFault.TheVariants as fault
-use Rattle.trace_runs.specs.Calls.{AppendsFront}
+use Rattle.whole_writes.specs.Calls.{AppendsFront}
 use Rattle.trace_runs.specs.Ends.{IsOwn, Given, ReadFor}
 use Rattle.trace_runs.specs.KernelNames.{input_names}
 use Rattle.trace_runs.specs.Led.{RunsRows}

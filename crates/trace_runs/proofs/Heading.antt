@@ -19,7 +19,8 @@ use Rattle.trace_runs.specs.Report.{Report, Pace, behind_bytes, turns_from, adva
 use Rattle.trace_runs.specs.Progress.{Led, report_rest, turns_rest}
 use Rattle.trace_rows.specs.declared.fault.RowFault.TheVariants as fault
 use Rattle.trace_runs.specs.declared.status.Status.TheVariants as status
-use Rattle.trace_runs.proofs.Told.{told_both, told_map, told_some, told_some_both, appends_refl}
+use Rattle.whole_writes.proofs.Appending.{appends_refl}
+use Rattle.trace_runs.proofs.Told.{told_both, told_map, told_some, told_some_both}
 use Rattle.trace_runs.proofs.Splitting.{no_line, whole_lines-line, came_told, takes_told}
 
 -- the header is read

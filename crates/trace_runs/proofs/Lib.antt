@@ -10,7 +10,6 @@ mod OneTelling
 mod Numbered
 mod Picking
 pub mod Printing
-mod Ranges
 pub mod Running
 pub mod Splitting
 pub mod RunEnds

@@ -3,7 +3,7 @@ use Rattle.std.proofs.Common.{◌≡◌, ◌≢◌, inl, inr, ℕ, Bool, List, O
 use Rattle.std.specs.Option.{IfSome}
 use Rattle.std.specs.Io.KnownBytes.{Appends}
 use Rattle.forec_base.specs.Outside.{Fell}
-use Rattle.trace_runs.specs.Calls.{AppendsFront}
+use Rattle.whole_writes.specs.Calls.{AppendsFront}
 use Rattle.trace_runs.specs.Ends.{IsOwn, Given}
 use Rattle.trace_runs.specs.Prints.{Prints, PrintsReport}
 use Rattle.trace_runs.specs.Report.{Report}

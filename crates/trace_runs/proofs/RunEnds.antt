@@ -5,7 +5,7 @@ use Rattle.std.specs.Io.KnownBytes.{Appends}
 use Rattle.forec_base.specs.Outside.{Fell}
 use Rattle.forec_kernel.specs.Shapes.{PlainKernel}
 use Rattle.trace_rows.specs.SourceReads.{none}
-use Rattle.trace_runs.specs.Calls.{AppendsFront}
+use Rattle.whole_writes.specs.Calls.{AppendsFront}
 use Rattle.trace_runs.specs.Ends.{IsOwn, Given, Wanted, ReadFor}
 use Rattle.trace_runs.specs.Led.{IsTold, IsTraceReport, RunsRows}
 use Rattle.trace_runs.specs.Prints.{Prints, PrintsReport}

@@ -18,7 +18,7 @@ use Rattle.trace_rows.specs.Lines.{is_newline, whole_lines}
 use Rattle.trace_rows.specs.Reader.{Reader, HasLine, LacksLine, trace_ahead}
 use Rattle.trace_rows.specs.Trace.{Row, Form, TraceEnd, Trace, stop, onto, row_at, row_width}
 use Rattle.trace_rows.specs.declared.fault.RowFault.{RowFault}
-use Rattle.trace_runs.specs.Calls.{AppendsFront}
+use Rattle.whole_writes.specs.Calls.{AppendsFront}
 use Rattle.trace_runs.specs.Ends.{Given}
 use Rattle.trace_runs.specs.Report.{Report, Pace, printed_before, outcome_lines, tick_lines, lines_from, last_outcome, ending, behind_bytes, report_from, turns_from, status_after, advance}
 use Rattle.trace_rows.specs.Report.{rows_words, row_words}
@@ -29,7 +29,8 @@ use Rattle.trace_runs.specs.Ticking.{tick_after}
 use Rattle.trace_runs.specs.declared.status.Status.{Status}
 use Rattle.trace_runs.specs.declared.status.Status.TheVariants as status
 use Rattle.trace_runs.proofs.Following.{led_on, outcome_at, outputs_at}
-use Rattle.trace_runs.proofs.Told.{appends_both, front_longer, front_behind, told_both, told_refl, told_some, some_map, appends_refl}
+use Rattle.whole_writes.proofs.Appending.{appends_both, front_longer, front_behind, appends_refl}
+use Rattle.trace_runs.proofs.Told.{told_both, told_refl, told_some, some_map}
 use Rattle.trace_runs.proofs.NextRows.{Gave}
 use Rattle.trace_runs.proofs.Advancing.{turns_on, turns_stop, report_step, behind_twice, PausesAtRow, advance_more, pace_after, paused, printed_after, run_on, run_stops}
 use Rattle.trace_runs.proofs.Splitting.{Cut, no_line, whole_lines-line, came_told, takes_told}

@@ -3,29 +3,7 @@ use Rattle.std.proofs.Common.{◌≡◌, ℕ, List, [], ◌++◌, Option, Some, 
 use Rattle.std.specs.Option.{IfSome}
 use Rattle.std.specs.Io.KnownBytes.{Keeps, Appends}
 use Rattle.trace_rows.specs.Calls.{IfTold}
-use Rattle.trace_runs.specs.Calls.{AppendsFront}
-
-pub appends_nothing : (a b : Option (List ℕ)) → Keeps a b → Appends a b []
-appends_nothing None b h = tt
-appends_nothing (Some x) None h = h
-appends_nothing (Some x) (Some y) h = h ∙ sym (append-nil x)
-
-pub appends_both : (a b c : Option (List ℕ)) (x y : List ℕ) → Appends a b x → Appends b c y → Appends a c (x ++ y)
-appends_both None b c x y h k = tt
-appends_both (Some s) None c x y h k = absurd h
-appends_both (Some s) (Some t) None x y h k = k
-appends_both (Some s) (Some t) (Some u) x y h k = k ∙ ap (λ r. r ++ y) h ∙ append_assoc s x y
-
--- after a fault what was added before it is a front
-pub front_kept : (a b c : Option (List ℕ)) (x y all : List ℕ) → all ≡ x ++ y → Appends a b x → Keeps b c → AppendsFront a c all
-front_kept a b c x y all e h k =
-    (x, y, e, subst (Appends a c) (append-nil x) (appends_both a b c x [] h (appends_nothing b c k)))
-
-pub front_longer : (a b : Option (List ℕ)) (x more : List ℕ) → AppendsFront a b x → AppendsFront a b (x ++ more)
-front_longer a b x more f = (f.0, f.1 ++ more, ap (λ r. r ++ more) f.2 ∙ append_assoc f.0 f.1 more, f.3)
-
-pub front_behind : (a b c : Option (List ℕ)) (x y : List ℕ) → Appends a b x → AppendsFront b c y → AppendsFront a c (x ++ y)
-front_behind a b c x y h f = (x ++ f.0, f.1, ap (λ r. x ++ r) f.2 ∙ sym (append_assoc x f.0 f.1), appends_both a b c x f.0 h f.3)
+use Rattle.whole_writes.specs.Calls.{AppendsFront}
 
 -- ---- words on what is told
 
@@ -57,7 +35,3 @@ told_some_both (Some x) (Some y) P Q R h k f = f x y h k
 pub some_map : (a : Option (List ℕ)) (P Q : List ℕ → Type 0) → IfSome a P → ((x : List ℕ) → P x → Q x) → IfSome a Q
 some_map None P Q h f = tt
 some_map (Some x) P Q h f = f x h
-
-pub appends_refl : (a : Option (List ℕ)) → Appends a a []
-appends_refl None = tt
-appends_refl (Some x) = sym (append-nil x)

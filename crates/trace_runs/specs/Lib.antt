@@ -1,4 +1,3 @@
-pub mod Calls
 pub mod Ends
 pub mod Formats
 pub mod Hosting

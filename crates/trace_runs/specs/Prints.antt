@@ -1,7 +1,7 @@
 -- What a call does that prints a report.
 use Rattle.std.specs.Prelude.{◌≡◌, ◌⊎◌, ℕ, Bool, List, Option, ⊤}
 use Rattle.forec_base.specs.Outside.{Fell}
-use Rattle.trace_runs.specs.Calls.{AppendsFront}
+use Rattle.whole_writes.specs.Calls.{AppendsFront}
 use Rattle.trace_runs.specs.Ends.{IsOwn, Given}
 use Rattle.trace_runs.specs.Report.{Report}
 use Rattle.trace_runs.specs.declared.status.Status.{Status}

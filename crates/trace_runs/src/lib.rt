@@ -31,7 +31,7 @@ pub use laws::each_format_writes_one_run;
 pub use rewriting::rewrite_trace;
 pub use session::Session;
 pub use setting::{Company, Nobody, Setting};
-pub use sink::{say, write_all};
+pub use sink::say;
 pub use status::Status;
 pub use ticker::Ticker;
 pub use ticks::{last_status, run, send_due};

@@ -6,7 +6,7 @@ ghost use Rattle.forec_kernel.specs.Shapes.{PlainKernel};
 ghost use Rattle.trace_rows.specs.Calls.{IfTold, Faults};
 ghost use Rattle.trace_rows.specs.Reader.{HasLine};
 ghost use Rattle.trace_rows.specs.SourceReads.{ReadsBytes};
-ghost use Rattle.trace_runs.specs.Calls.{AppendsFront};
+ghost use Rattle.whole_writes.specs.Calls.{AppendsFront};
 ghost use Rattle.trace_runs.specs.Ends.{IsOwn};
 ghost use Rattle.trace_runs.specs.Led.{RunsRows};
 ghost use Rattle.trace_runs.specs.Report.{status_after, trace_turns};

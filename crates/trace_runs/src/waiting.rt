@@ -3,7 +3,7 @@ ghost use Rattle.std.specs.Prelude.{◌≡◌, ◌≢◌, ◌+◌, ◌-◌, ◌^
 ghost use Rattle.std.specs.Io.KnownBytes.{Appends};
 ghost use Rattle.trace_rows.specs.Calls.{Faults};
 ghost use Rattle.tick_jobs.specs.Outcomes.{HasOutputs};
-ghost use Rattle.trace_runs.specs.Calls.{AppendsFront};
+ghost use Rattle.whole_writes.specs.Calls.{AppendsFront};
 ghost use Rattle.forec_kernel.specs.Ticks.{goes_on};
 ghost use Rattle.trace_rows.specs.Report.{end_words, trap_word, trap_words, over_words, rows_words, fault_word, row_words};
 ghost use Rattle.trace_runs.specs.Formats.{IsFit, after_words, before_words, format_after, last_written, names_in, opening, room_in, tick_written};
@@ -11,13 +11,13 @@ ghost use Rattle.trace_runs.specs.Report.{outcome_lines};
 ghost use Rattle.trace_runs.specs.Workload.{workload_line};
 
 use crate::format::Format;
-use crate::sink::write_all;
 use crate::status::Status;
 use forec_base::{Failed, Labels, OutOfMemory, Place, Sink, Trap};
 use forec_kernel::Outcome;
 use itoa::Buffer;
 use std::alloc::Global;
 use trace_rows::RowFault;
+use whole_writes::write_all;
 
 /// Room for the lines of a tick, that of its outputs apart.
 const TICK_ROOM: usize = 96;

@@ -8,7 +8,7 @@ returns-then-most-room-clause-ok g c = sends_none (g.K.Sink.held c.args.out.now)
 pub returns-in-Ok-clause-ok : goal.returns-in-Ok-clause-ok
 returns-in-Ok-clause-ok g c =
     let held = g.K.Sink.held in
-    sends_each (held c.args.out.now) (held c.send.new.out) (take c.args.end c.args.room.now)
+    sends_each (held c.args.out.now) (held c.write_all.new.out) (take c.args.end c.args.room.now)
     c.in-Ok.ensures.ok
 
 pub returns-in-Err-clause-err : goal.returns-in-Err-clause-err

@@ -1,9 +1,11 @@
 use Rattle.std.proofs.Common.{◌≡◌, ◌++◌, ℕ, List, take, codes, sym, subst, ap, ◌∙◌}
 use Rattle.std.specs.Io.KnownBytes.{Appends}
 use Rattle.wave_dump.specs.Dumps.{plain_dump, plain_ticks}
-use Rattle.dump_report.specs.Calls.{AddsFront, Sends}
+use Rattle.whole_writes.specs.Calls.{AppendsFront}
+use Rattle.dump_report.specs.Calls.{Sends}
 use Rattle.dump_report.specs.Told.{told_lines, told_ticks}
-use Rattle.dump_report.proofs.Sent.{range_front, on_ok, on_err, err_holds, front_longer, sends_longer, sends_closing, sends_all, sends_front, last_front}
+use Rattle.whole_writes.proofs.Appending.{front_longer}
+use Rattle.dump_report.proofs.Sent.{range_front, on_ok, on_err, err_holds, sends_longer, sends_closing, sends_all, sends_front, last_front}
 use Rattle.dump_report.proofs.telling.tell_lines.Goals as goal
 
 pub returns-in_err-waiting-clause-err : goal.returns-in_err-waiting-clause-err
@@ -13,8 +15,8 @@ returns-in_err-waiting-clause-err g c =
     let a = held c.args.out.now in
     let b = held c.tell_ticks.new.out in
     let lines : List ℕ = told_ticks 1 d.names (plain_ticks d.ticks.items) in
-    let front : AddsFront a b lines = subst (λ ts. AddsFront a b (told_ticks 1 d.names (plain_ticks ts))) c.deref.ensures.value c.in_err-waiting.ensures.err in
-    err_holds c.from_residual.result (AddsFront a b (told_lines (plain_dump d))) (front_longer a b lines (d.ending.items ++ codes "\n") front)
+    let front : AppendsFront a b lines = subst (λ ts. AppendsFront a b (told_ticks 1 d.names (plain_ticks ts))) c.deref.ensures.value c.in_err-waiting.ensures.err in
+    err_holds c.from_residual.result (AppendsFront a b (told_lines (plain_dump d))) (front_longer a b lines (d.ending.items ++ codes "\n") front)
 
 pub returns-in_err-left-clause-err : goal.returns-in_err-left-clause-err
 returns-in_err-left-clause-err g c =
@@ -26,7 +28,7 @@ returns-in_err-left-clause-err g c =
     let last : List ℕ = d.ending.items ++ codes "\n" in
     let waiting : List ℕ = take c.in_ok-waiting.waiting c.tell_ticks.new.room in
     let told : Sends a b lines waiting = subst (λ ts. Sends a b (told_ticks 1 d.names (plain_ticks ts)) waiting) c.deref.ensures.value c.in_ok-waiting.ensures.ok in
-    err_holds c.from_residual-in_err-left.result (AddsFront a (held c.make_room.new.out) (told_lines (plain_dump d)))
+    err_holds c.from_residual-in_err-left.result (AppendsFront a (held c.make_room.new.out) (told_lines (plain_dump d)))
     (sends_front a b (held c.make_room.new.out) (told_lines (plain_dump d)) waiting last (sends_longer a b lines waiting last told) c.in_err-left.ensures.err)
 
 pub returns-clause-ok : goal.returns-clause-ok
@@ -36,7 +38,7 @@ returns-clause-ok g c =
     let a = held c.args.out.now in
     let b = held c.tell_ticks.new.out in
     let m = held c.make_room.new.out in
-    let z = held c.send.new.out in
+    let z = held c.write_all.new.out in
     let lines : List ℕ = told_ticks 1 d.names (plain_ticks d.ticks.items) in
     let last : List ℕ = d.ending.items ++ codes "\n" in
     let waiting : List ℕ = take c.in_ok-waiting.waiting c.tell_ticks.new.room in
@@ -45,7 +47,7 @@ returns-clause-ok g c =
     let told : Sends a b lines waiting = subst (λ ts. Sends a b (told_ticks 1 d.names (plain_ticks ts)) waiting) c.deref.ensures.value c.in_ok-waiting.ensures.ok in
     let put : bytes ≡ left ++ last = c.put_ending-end.ensures.front ∙ ap (λ e. left ++ (e ++ codes "\n")) c.deref-2.ensures.value in
     let closing = sends_closing a b m lines waiting left last bytes told c.in_ok-left.ensures.ok put in
-    on_ok c.send.result _ _ c.send.ensures.ok
+    on_ok c.write_all.result _ _ c.write_all.ensures.ok
     (λ h. sends_all a m z (told_lines (plain_dump d)) bytes closing h)
 
 pub returns-clause-err : goal.returns-clause-err
@@ -55,7 +57,7 @@ returns-clause-err g c =
     let a = held c.args.out.now in
     let b = held c.tell_ticks.new.out in
     let m = held c.make_room.new.out in
-    let z = held c.send.new.out in
+    let z = held c.write_all.new.out in
     let lines : List ℕ = told_ticks 1 d.names (plain_ticks d.ticks.items) in
     let last : List ℕ = d.ending.items ++ codes "\n" in
     let waiting : List ℕ = take c.in_ok-waiting.waiting c.tell_ticks.new.room in
@@ -64,5 +66,5 @@ returns-clause-err g c =
     let told : Sends a b lines waiting = subst (λ ts. Sends a b (told_ticks 1 d.names (plain_ticks ts)) waiting) c.deref.ensures.value c.in_ok-waiting.ensures.ok in
     let put : bytes ≡ left ++ last = c.put_ending-end.ensures.front ∙ ap (λ e. left ++ (e ++ codes "\n")) c.deref-2.ensures.value in
     let closing = sends_closing a b m lines waiting left last bytes told c.in_ok-left.ensures.ok put in
-    on_err c.send.result _ _ c.send.ensures.err
+    on_err c.write_all.result _ _ c.write_all.ensures.err
     (λ h. last_front a m z (told_lines (plain_dump d)) bytes closing h)

@@ -1,7 +1,7 @@
 use Rattle.std.proofs.Common.{◌≡◌, ◌+◌, ◌-◌, ◌++◌, [], ℕ, List, ap, subst, ◌∙◌, arith}
 use Rattle.exchange_meaning.specs.LogLines.{log_lines_from, thread_log_lines, log_text}
 use Rattle.exchange_log.specs.Posted.{log_in}
-use Rattle.trace_runs.specs.Calls.{AppendsFront}
+use Rattle.whole_writes.specs.Calls.{AppendsFront}
 use Rattle.log_runs.specs.Sending.{SendsBehind}
 use Rattle.log_runs.proofs.PairLemmas.{thread_added, log_split, log_done}
 use Rattle.log_runs.proofs.SendingLemmas.{sends_both, sends_part, sends_front, err_map}

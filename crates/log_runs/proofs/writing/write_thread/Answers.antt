@@ -2,7 +2,7 @@ use Rattle.std.proofs.Common.{◌≡◌, ◌+◌, ◌-◌, ◌++◌, ◌<◌, �
 use Rattle.exchange_meaning.specs.LogLines.{exchange_lines, thread_log_lines}
 use Rattle.exchange_log.specs.Lines.{pair_lines}
 use Rattle.exchange_log.specs.Posted.{log_in}
-use Rattle.trace_runs.proofs.Told.{front_longer}
+use Rattle.whole_writes.proofs.Appending.{front_longer}
 use Rattle.log_runs.specs.Sending.{SendsBehind, head_line}
 use Rattle.log_runs.proofs.PairLemmas.{pairs_count, jobs_are, pair_added, thread_done, thread_split}
 use Rattle.log_runs.proofs.SendingLemmas.{sends_both, sends_front}

@@ -3,9 +3,8 @@ use Rattle.std.proofs.Math.Seq.{take-add}
 use Rattle.std.specs.List.{slice_range}
 use Rattle.std.specs.Io.KnownBytes.{Appends}
 use Rattle.std.proofs.lemmas.List.{take-append-drop}
-use Rattle.trace_runs.proofs.Told.{appends_both, front_kept}
-use Rattle.trace_runs.proofs.Ranges.{range_rest}
-use Rattle.trace_runs.proofs.sink.write_all.Goals as goal
+use Rattle.whole_writes.proofs.Appending.{appends_both, front_kept, range_rest}
+use Rattle.whole_writes.proofs.writing.write_all.Goals as goal
 
 pub loop-at-preserved : goal.loop-at-preserved
 loop-at-preserved g c =
