@@ -1,9 +1,13 @@
 //! Programs of one thread, the words, and the sizes.
 
-use crate::memory::{Asked, Row, counts, owned, prints_each, run, shows, single, whole};
+use crate::memory::{Asked, Row, Streams, counts, owned, prints_each, run, shows, single, whole};
 use forec_base::{MemSink, OpenGate, SureSource, SureTexts};
 use forec_engine::{Status, forec};
+use std::alloc::Global;
+use std::process::Abort;
+use std::sync::Wait;
 use std::test::Fail;
+use std::thread::Threads;
 
 /// One output, which a loop raises in each tick.
 const COUNTER: &[u8] = b"output int o = 0; void main(void) { while (1) { o = o + 1; pause; } }";
@@ -136,7 +140,9 @@ fn rows(rt: HostRuntime) -> Result<(), Fail> {
 }
 
 /// A text, the word of its budget, what is held in the end over three rows without words, and the status.
-const BUDGETS: [(&[u8], &str, &[u8], Status); 6] = [
+type Budgeted = (&'static [u8], &'static str, &'static [u8], Status);
+
+const BUDGETS: [Budgeted; 6] = [
     (
         COUNTER,
         "7",
@@ -165,18 +171,27 @@ const BUDGETS: [(&[u8], &str, &[u8], Status); 6] = [
     ),
 ];
 
+fn ends(
+    rt: &(impl Abort + Threads + Wait + Sync),
+    alloc: Global,
+    row: &Budgeted,
+    streams: Streams,
+) -> Result<(), Fail> {
+    let (text, budget, want, status) = row;
+    let words = ["run", "P", "--budget", budget];
+    let asked = Asked {
+        words: &words,
+        text,
+        trace: b"\n\n\n",
+    };
+    shows(rt, alloc, asked, streams, (want, *status))
+}
+
 #[test]
 fn budgets(rt: HostRuntime) -> Result<(), Fail> {
     let alloc = rt.alloc();
-    for (text, budget, want, status) in &BUDGETS {
-        let words = ["run", "P", "--budget", budget];
-        let streams = whole(alloc);
-        let asked = Asked {
-            words: &words,
-            text,
-            trace: b"\n\n\n",
-        };
-        shows(&rt, alloc, asked, streams, (want, *status))?;
+    for row in &BUDGETS {
+        ends(&rt, alloc, row, whole(alloc))?;
     }
     Ok(())
 }
@@ -292,8 +307,8 @@ fn sizes(rt: HostRuntime) -> Result<(), Fail> {
     Ok(())
 }
 
-/// A text, the word of its budget, what is held in the end, and the status: the first row is the last.
-const LAST: [(&[u8], &str, &[u8], Status); 3] = [
+/// The first row is the last.
+const LAST: [Budgeted; 3] = [
     (WRAPS, "100", b"tick 1 o=-2147483648\nend 1\n", Status::Done),
     (TURNS, "100", b"trap 1 1:48 turns\n", Status::Trapped),
     (COUNTER, "6", b"over 1 budget 6\n", Status::Over),
@@ -303,15 +318,8 @@ const LAST: [(&[u8], &str, &[u8], Status); 3] = [
 #[test]
 fn reads_no_further(rt: HostRuntime) -> Result<(), Fail> {
     let alloc = rt.alloc();
-    for (text, budget, want, status) in &LAST {
-        let words = ["run", "P", "--budget", budget];
-        let streams = single(alloc, 3, 0)?;
-        let asked = Asked {
-            words: &words,
-            text,
-            trace: b"\n\n\n",
-        };
-        shows(&rt, alloc, asked, streams, (want, *status))?;
+    for row in &LAST {
+        ends(&rt, alloc, row, single(alloc, 3, 0)?)?;
     }
     Ok(())
 }
