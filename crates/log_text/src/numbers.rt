@@ -91,6 +91,7 @@ fn brief_at(bytes: &[u8], at: usize) -> Option<(u64, usize)>
 }
 
 /// Reads a number of at most 64 bits.
+#[inline(always)]
 fn word_at(bytes: &[u8], at: usize) -> Option<(u64, usize)>
     requires { at ≤ length bytes.now }
     ensures stands { IfSome result (λ x. IsNumberAt bytes.now at (decimal x.0) x.1) }
@@ -105,6 +106,7 @@ fn word_at(bytes: &[u8], at: usize) -> Option<(u64, usize)>
 }
 
 /// Reads a number of at most `limit`.
+#[inline(always)]
 pub fn number_at(bytes: &[u8], at: usize, limit: u64) -> Option<(u64, usize)>
     requires { at ≤ length bytes.now }
     ensures stands { IfSome result (λ x. (x.0 ≤ limit) × IsNumberAt bytes.now at (decimal x.0) x.1) }
@@ -126,6 +128,7 @@ fn negated(magnitude: u64) -> i32
 }
 
 /// Reads a number of 32 bits, with `-` before it where it is negative.
+#[inline(always)]
 pub fn signed_at(bytes: &[u8], at: usize) -> Option<(i32, usize)>
     requires { at ≤ length bytes.now }
     ensures stands { IfSome result (λ x. IsNumberAt bytes.now at (signed_decimal x.0) x.1) }

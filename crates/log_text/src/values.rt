@@ -14,6 +14,7 @@ use crate::pieces::{expect, stands};
 use forec_kernel::VarCopy;
 
 /// Reads a space and a number.
+#[inline(always)]
 fn read_value(bytes: &[u8], at: usize) -> Option<(i32, usize)>
     requires { at ≤ length bytes.now }
     ensures stands { IfSome result (λ x. ReadsValue bytes.now at x.0 x.1) }
@@ -63,6 +64,7 @@ pub fn read_values(bytes: &[u8], at: usize, copies: &mut [VarCopy]) -> Option<us
 }
 
 /// Reads a copy: a space, its value, and a star where it is marked.
+#[inline(always)]
 fn read_copy(bytes: &[u8], at: usize) -> Option<(VarCopy, usize)>
     requires { at ≤ length bytes.now }
     ensures stands { IfSome result (λ x. ReadsCopy bytes.now at x.0 x.1) }
