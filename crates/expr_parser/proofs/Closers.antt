@@ -1,5 +1,5 @@
 -- The tokens that a rule asks for by themselves: the table, read backwards.
-use Rattle.std.proofs.Common.{◌≡◌, ℕ, true, nat_eq, Option, Some, None, refl, sym, ◌∙◌, ap, arith, if◌then◌else◌}
+use Rattle.std.proofs.Common.{◌≡◌, ℕ, Bool, true, false, nat_eq, Option, Some, None, refl, sym, ◌∙◌, ap, arith, if◌then◌else◌}
 use Rattle.forec_tree.specs.declared.token.TokenKind.{TokenKind}
 use Rattle.forec_tree.specs.declared.token.TokenKind.TheVariants as kind
 use Rattle.forec_tree.specs.declared.token.Mark.TheVariants as mark
@@ -156,6 +156,14 @@ fixed-kind f k h = of (fixed_of k) (shows k) h
     of : (g : Option Fixed) → Shows k g → same_fixed f g ≡ true → k ≡ Some (kind_of f)
     of None s h = absurd (cc)
     of (Some g) s h = let e : f ≡ g = same_number f g h in s ∙ ap (λ (z : Fixed). Some (kind_of z)) (sym e)
+
+-- a token of which something holds that doesn't of this one is another
+pub other-kind : (holds : Option TokenKind → Bool) (f : Fixed) → holds (Some (kind_of f)) ≡ false → (k : Option TokenKind) → holds k ≡ true → is_fixed f k ≡ false
+other-kind holds f fails k h = of (is_fixed f k) (fixed-kind f k)
+  where
+    of : (b : Bool) → (b ≡ true → k ≡ Some (kind_of f)) → b ≡ false
+    of true same = absurd (let e : true ≡ false = sym h ∙ (ap holds (same refl) ∙ fails) in cc)
+    of false same = refl
 
 -- and the other way round
 pub kind-fixed : (f : Fixed) → is_fixed f (Some (kind_of f)) ≡ true

@@ -24,6 +24,7 @@ use Rattle.expr_parser.specs.Reading.{binding_ahead, read_expression, climb, pre
 use Rattle.expr_parser.proofs.Spans.{tokens_append, longer, first, first-is}
 use Rattle.expr_parser.proofs.Exact.{part, Reading, reading, both, mapped, inside, done, on, off, Above, Follows, comes, too_high, above_front, above_back, follow_behind, follow_as, map_to, reads_by, read_at}
 use Rattle.expr_parser.proofs.Leaves.{name_is, number_is, a_number, raises, opens_then, encloses, Listed, end_of_list, next_of_list, full_commas, Full, full, Filled, is_so, close_ok}
+use Rattle.expr_parser.proofs.Closers.{other-kind}
 use Rattle.expr_parser.proofs.Operators.{sign_start, mark_infix, mark_behind, level_bounds, binds_small, ends, ends_ahead, ends_behind}
 use Rattle.expr_parser.proofs.ExpressionSound.{sound, a_value, a_bracketed, an_indexed, a_passed, a_named, indexed_by, passed_by, value_by}
 
@@ -105,31 +106,13 @@ pub begun_arguments : {v : ℕ} {xs : List Term} {ls : List Spelt} → SpellsExp
 begun_arguments (one s) = begun_whole s
 begun_arguments (more comma {ls = ls} s h r) = begun_append ls _ (begun_whole s)
 
-not_closing : (k : Option TokenKind) → starts k ≡ true → is_fixed fixed.RightRound k ≡ false
-not_closing (Some (kind.Number value)) h = refl
-not_closing (Some (kind.Name id)) h = refl
-not_closing (Some (kind.Mark mark.Minus)) h = refl
-not_closing (Some (kind.Mark mark.Tilde)) h = refl
-not_closing (Some (kind.Mark mark.Bang)) h = refl
-not_closing (Some (kind.Mark mark.LeftRound)) h = refl
-not_closing _ h = absurd (cc)
-
-not_semicolon : (k : Option TokenKind) → starts k ≡ true → is_fixed fixed.Semicolon k ≡ false
-not_semicolon (Some (kind.Number value)) h = refl
-not_semicolon (Some (kind.Name id)) h = refl
-not_semicolon (Some (kind.Mark mark.Minus)) h = refl
-not_semicolon (Some (kind.Mark mark.Tilde)) h = refl
-not_semicolon (Some (kind.Mark mark.Bang)) h = refl
-not_semicolon (Some (kind.Mark mark.LeftRound)) h = refl
-not_semicolon _ h = absurd (cc)
-
 pub begun_round : (ls : List Spelt) (k : Option TokenKind) → Begun ls → is_fixed fixed.RightRound (first ls k) ≡ false
 begun_round [] k h = absurd h
-begun_round (s ∷ ls) k h = not_closing (Some s.token.kind) h
+begun_round (s ∷ ls) k h = other-kind starts fixed.RightRound refl (Some s.token.kind) h
 
 pub begun_semicolon : (ls : List Spelt) (k : Option TokenKind) → Begun ls → is_fixed fixed.Semicolon (first ls k) ≡ false
 begun_semicolon [] k h = absurd h
-begun_semicolon (s ∷ ls) k h = not_semicolon (Some s.token.kind) h
+begun_semicolon (s ∷ ls) k h = other-kind starts fixed.Semicolon refl (Some s.token.kind) h
 
 lt_true : (a b : ℕ) → a < b → nat_lt a b ≡ true
 lt_true a b h = grind arith

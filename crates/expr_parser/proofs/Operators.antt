@@ -17,6 +17,7 @@ use Rattle.expr_parser.specs.declared.meaning.Infix.{Infix}
 use Rattle.expr_parser.specs.declared.meaning.Infix.TheVariants as inf
 use Rattle.expr_parser.specs.declared.meaning.Behind.TheVariants as follow
 use Rattle.expr_parser.specs.Meaning.{term_start, infix_of, after_of, binds, is_fixed}
+use Rattle.expr_parser.proofs.Closers.{other-kind}
 pub use Rattle.expr_parser.specs.Meaning.{ends}
 
 -- ---- backwards
@@ -160,28 +161,10 @@ ends_behind (Some (kind.Mark mark.Colon)) h = refl
 ends_behind _ h = absurd (cc)
 
 pub ends_square : (k : Option TokenKind) → ends k ≡ true → is_fixed fixed.LeftSquare k ≡ false
-ends_square (Some (kind.Mark mark.RightRound)) h = refl
-ends_square (Some (kind.Mark mark.RightSquare)) h = refl
-ends_square (Some (kind.Mark mark.RightCurly)) h = refl
-ends_square (Some (kind.Mark mark.Comma)) h = refl
-ends_square (Some (kind.Mark mark.Semicolon)) h = refl
-ends_square (Some (kind.Mark mark.Colon)) h = refl
-ends_square _ h = absurd (cc)
+ends_square = other-kind ends fixed.LeftSquare refl
 
 pub ends_round : (k : Option TokenKind) → ends k ≡ true → is_fixed fixed.LeftRound k ≡ false
-ends_round (Some (kind.Mark mark.RightRound)) h = refl
-ends_round (Some (kind.Mark mark.RightSquare)) h = refl
-ends_round (Some (kind.Mark mark.RightCurly)) h = refl
-ends_round (Some (kind.Mark mark.Comma)) h = refl
-ends_round (Some (kind.Mark mark.Semicolon)) h = refl
-ends_round (Some (kind.Mark mark.Colon)) h = refl
-ends_round _ h = absurd (cc)
+ends_round = other-kind ends fixed.LeftRound refl
 
 pub ends_assign : (k : Option TokenKind) → ends k ≡ true → is_fixed fixed.Assign k ≡ false
-ends_assign (Some (kind.Mark mark.RightRound)) h = refl
-ends_assign (Some (kind.Mark mark.RightSquare)) h = refl
-ends_assign (Some (kind.Mark mark.RightCurly)) h = refl
-ends_assign (Some (kind.Mark mark.Comma)) h = refl
-ends_assign (Some (kind.Mark mark.Semicolon)) h = refl
-ends_assign (Some (kind.Mark mark.Colon)) h = refl
-ends_assign _ h = absurd (cc)
+ends_assign = other-kind ends fixed.Assign refl

@@ -35,14 +35,9 @@ use Rattle.expr_parser.proofs.Closers.{fixed-kind}
 use Rattle.expr_parser.proofs.Exact.{Lang, Read, Exact, Bind, both, Map, mapped, Done, done, If, on, off, Part, part, Reading, reading, Any, comes, bind, map_to, convert, either, done_at, by_reading, read_as, reads_by}
 use Rattle.expr_parser.proofs.Leaves.{Tok, tok, NameIs, name_is, NumberIs, number_is, token, a_name, a_number, Enclosed, EnclosedBy, between, encloses, enclosing, Listed, end_of_list, next_of_list, full_commas, Full, full, Filled, is_so}
 use Rattle.expr_parser.proofs.Operators.{ends, ends_assign}
+use Rattle.forec_parser.proofs.Marks.{curly_ends, curly_comma}
 use Rattle.forec_parser.proofs.SimpleRules.{a_list, list_reads}
 use Rattle.forec_parser.proofs.PartRules.{MaybeLength, some_length, no_length, maybe_length_by, maybe_length_reads}
-
-curly_ends : (t : Token) → IsMark mark.RightCurly t → ends (Some t.kind) ≡ true
-curly_ends t h = rw h
-
-curly_comma : (t : Token) → IsMark mark.RightCurly t → is_fixed fixed.Comma (Some t.kind) ≡ false
-curly_comma t h = rw h
 
 round_ends : (k : Option TokenKind) → is_fixed fixed.RightRound k ≡ true → ends k ≡ true
 round_ends k h = ap ends (fixed-kind fixed.RightRound k h)

@@ -33,16 +33,11 @@ use Rattle.expr_parser.proofs.Spans.{first, first-is}
 use Rattle.expr_parser.proofs.Exact.{Lang, Read, Exact, Bind, both, Map, mapped, Done, done, If, on, off, Part, part, Reading, reading, Any, bind, map_to, convert, either, done_at, by_reading, read_as, reads_by, read_at}
 use Rattle.expr_parser.proofs.Leaves.{Tok, tok, NameIs, name_is, token, a_name, between, Listed, Full, Filled, is_so}
 use Rattle.expr_parser.proofs.Operators.{ends}
+use Rattle.forec_parser.proofs.Marks.{semicolon_ends, semicolon_comma}
 use Rattle.forec_parser.proofs.StatementSound.{Bodied, bodied, Braces, block_here, sound_stmt}
 use Rattle.forec_parser.proofs.StatementComplete.{here_reads, block_reads}
 use Rattle.forec_parser.proofs.PartRules.{MaybeLength, some_length, no_length, maybe_length_by, maybe_length_reads}
 use Rattle.forec_parser.proofs.ItemRules.{one_is, tabled, one_number, more_numbers, MaybeValues, no_numbers, some_numbers, maybe_values_by, maybe_values_read, MaybeValue, no_value, some_value, IsItem, Wrapped, wrapped, DeclaredAs, wrap_in, items_read, maybe_value_by, maybe_value_reads, combines_by, combines_reads, parameters_by, parameters_read, declared_reads, declared_filled, declared_list}
-
-semicolon_ends : (t : Token) → IsMark mark.Semicolon t → ends (Some t.kind) ≡ true
-semicolon_ends t h = rw h
-
-semicolon_comma : (t : Token) → IsMark mark.Semicolon t → is_fixed fixed.Comma (Some t.kind) ≡ false
-semicolon_comma t h = rw h
 
 -- globals from `int` on
 pub data Ints (d : Declarator) : List PlainItem → ℕ → List Spelt → Type 0 where

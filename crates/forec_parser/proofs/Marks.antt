@@ -1,17 +1,22 @@
 -- The tables of statements, read in the other direction.
-use Rattle.std.proofs.Common.{◌≡◌, Bool, true, false, Option, Some, refl}
+use Rattle.std.proofs.Common.{◌≡◌, Bool, true, false, not, Option, Some, None, refl, ap}
 use Rattle.forec_base.specs.declared.operators.Binary.{Binary}
+use Rattle.forec_tree.specs.declared.token.Token.{Token}
 use Rattle.forec_tree.specs.declared.token.TokenKind.{TokenKind}
 use Rattle.forec_tree.specs.declared.token.TokenKind.TheVariants as kind
 use Rattle.forec_tree.specs.declared.token.Mark.TheVariants as mark
 use Rattle.forec_tree.specs.declared.token.Word.TheVariants as word
 use Rattle.forec_tree.specs.Parts.{updates_by, steps_by}
+use Rattle.forec_tree.specs.Rules.{is_none}
+use Rattle.forec_tree.specs.Spelling.{IsMark}
 use Rattle.expr_parser.specs.declared.fixed.Fixed.TheVariants as fixed
 use Rattle.forec_parser.specs.declared.meaning.Change.TheVariants as change
 use Rattle.forec_parser.specs.declared.meaning.Act.TheVariants as act
 use Rattle.forec_parser.specs.declared.meaning.Sort.TheVariants as sort
 use Rattle.expr_parser.specs.Meaning.{is_fixed}
-use Rattle.forec_parser.specs.Meaning.{change_of, act_of, sort_of, ends_body}
+use Rattle.expr_parser.proofs.Closers.{other-kind}
+use Rattle.expr_parser.proofs.Operators.{ends}
+use Rattle.forec_parser.specs.Meaning.{change_of, act_of, sort_of, ends_body, update_of, token_step}
 
 pub update_changes : (k : TokenKind) (op : Binary) → updates_by k ≡ Some op → change_of (Some k) ≡ change.Updates
 update_changes (kind.Mark mark.ShlAssign) op h = refl
@@ -38,40 +43,16 @@ step_acts _ op h = absurd (cc)
 
 -- what stands after a target, if it has no index
 pub update_square : (k : TokenKind) (op : Binary) → updates_by k ≡ Some op → is_fixed fixed.LeftSquare (Some k) ≡ false
-update_square (kind.Mark mark.ShlAssign) op h = refl
-update_square (kind.Mark mark.ShrAssign) op h = refl
-update_square (kind.Mark mark.AddAssign) op h = refl
-update_square (kind.Mark mark.SubAssign) op h = refl
-update_square (kind.Mark mark.MulAssign) op h = refl
-update_square (kind.Mark mark.DivAssign) op h = refl
-update_square (kind.Mark mark.RemAssign) op h = refl
-update_square (kind.Mark mark.AndAssign) op h = refl
-update_square (kind.Mark mark.OrAssign) op h = refl
-update_square (kind.Mark mark.XorAssign) op h = refl
-update_square _ op h = absurd (cc)
+update_square k op h = other-kind (λ o. not (is_none (update_of o))) fixed.LeftSquare refl (Some k) (ap (λ o. not (is_none o)) h)
 
 pub update_round : (k : TokenKind) (op : Binary) → updates_by k ≡ Some op → is_fixed fixed.LeftRound (Some k) ≡ false
-update_round (kind.Mark mark.ShlAssign) op h = refl
-update_round (kind.Mark mark.ShrAssign) op h = refl
-update_round (kind.Mark mark.AddAssign) op h = refl
-update_round (kind.Mark mark.SubAssign) op h = refl
-update_round (kind.Mark mark.MulAssign) op h = refl
-update_round (kind.Mark mark.DivAssign) op h = refl
-update_round (kind.Mark mark.RemAssign) op h = refl
-update_round (kind.Mark mark.AndAssign) op h = refl
-update_round (kind.Mark mark.OrAssign) op h = refl
-update_round (kind.Mark mark.XorAssign) op h = refl
-update_round _ op h = absurd (cc)
+update_round k op h = other-kind (λ o. not (is_none (update_of o))) fixed.LeftRound refl (Some k) (ap (λ o. not (is_none o)) h)
 
 pub step_square : (k : TokenKind) (op : Binary) → steps_by k ≡ Some op → is_fixed fixed.LeftSquare (Some k) ≡ false
-step_square (kind.Mark mark.PlusPlus) op h = refl
-step_square (kind.Mark mark.MinusMinus) op h = refl
-step_square _ op h = absurd (cc)
+step_square k op h = other-kind (λ o. not (is_none (token_step o))) fixed.LeftSquare refl (Some k) (ap (λ o. not (is_none o)) h)
 
 pub step_round : (k : TokenKind) (op : Binary) → steps_by k ≡ Some op → is_fixed fixed.LeftRound (Some k) ≡ false
-step_round (kind.Mark mark.PlusPlus) op h = refl
-step_round (kind.Mark mark.MinusMinus) op h = refl
-step_round _ op h = absurd (cc)
+step_round k op h = other-kind (λ o. not (is_none (token_step o))) fixed.LeftRound refl (Some k) (ap (λ o. not (is_none o)) h)
 
 -- ---- what a simple statement begins with
 
@@ -93,22 +74,13 @@ acts_simple (Some (kind.Mark mark.MinusMinus)) h = refl
 acts_simple _ h = absurd (cc)
 
 pub acts_semicolon : (k : Option TokenKind) → acts_first k ≡ true → is_fixed fixed.Semicolon k ≡ false
-acts_semicolon (Some (kind.Name id)) h = refl
-acts_semicolon (Some (kind.Mark mark.PlusPlus)) h = refl
-acts_semicolon (Some (kind.Mark mark.MinusMinus)) h = refl
-acts_semicolon _ h = absurd (cc)
+acts_semicolon = other-kind acts_first fixed.Semicolon refl
 
 pub acts_round : (k : Option TokenKind) → acts_first k ≡ true → is_fixed fixed.RightRound k ≡ false
-acts_round (Some (kind.Name id)) h = refl
-acts_round (Some (kind.Mark mark.PlusPlus)) h = refl
-acts_round (Some (kind.Mark mark.MinusMinus)) h = refl
-acts_round _ h = absurd (cc)
+acts_round = other-kind acts_first fixed.RightRound refl
 
 pub acts_int : (k : Option TokenKind) → acts_first k ≡ true → is_fixed fixed.Int k ≡ false
-acts_int (Some (kind.Name id)) h = refl
-acts_int (Some (kind.Mark mark.PlusPlus)) h = refl
-acts_int (Some (kind.Mark mark.MinusMinus)) h = refl
-acts_int _ h = absurd (cc)
+acts_int = other-kind acts_first fixed.Int refl
 
 -- ---- what a statement begins with
 
@@ -136,52 +108,25 @@ acts_says (Some (kind.Mark mark.MinusMinus)) h = refl
 acts_says _ h = absurd (cc)
 
 pub says_else : (k : Option TokenKind) → says_first k ≡ true → is_fixed fixed.Else k ≡ false
-says_else (Some (kind.Mark mark.Semicolon)) h = refl
-says_else (Some (kind.Mark mark.LeftCurly)) h = refl
-says_else (Some (kind.Word word.Int)) h = refl
-says_else (Some (kind.Word word.If)) h = refl
-says_else (Some (kind.Word word.While)) h = refl
-says_else (Some (kind.Word word.For)) h = refl
-says_else (Some (kind.Word word.Pause)) h = refl
-says_else (Some (kind.Word word.Par)) h = refl
-says_else (Some (kind.Word word.Weak)) h = refl
-says_else (Some (kind.Word word.Abort)) h = refl
-says_else (Some (kind.Word word.Return)) h = refl
-says_else (Some (kind.Name id)) h = refl
-says_else (Some (kind.Mark mark.PlusPlus)) h = refl
-says_else (Some (kind.Mark mark.MinusMinus)) h = refl
-says_else _ h = absurd (cc)
+says_else = other-kind says_first fixed.Else refl
 
 pub says_hash : (k : Option TokenKind) → says_first k ≡ true → is_fixed fixed.Hash k ≡ false
-says_hash (Some (kind.Mark mark.Semicolon)) h = refl
-says_hash (Some (kind.Mark mark.LeftCurly)) h = refl
-says_hash (Some (kind.Word word.Int)) h = refl
-says_hash (Some (kind.Word word.If)) h = refl
-says_hash (Some (kind.Word word.While)) h = refl
-says_hash (Some (kind.Word word.For)) h = refl
-says_hash (Some (kind.Word word.Pause)) h = refl
-says_hash (Some (kind.Word word.Par)) h = refl
-says_hash (Some (kind.Word word.Weak)) h = refl
-says_hash (Some (kind.Word word.Abort)) h = refl
-says_hash (Some (kind.Word word.Return)) h = refl
-says_hash (Some (kind.Name id)) h = refl
-says_hash (Some (kind.Mark mark.PlusPlus)) h = refl
-says_hash (Some (kind.Mark mark.MinusMinus)) h = refl
-says_hash _ h = absurd (cc)
+says_hash = other-kind says_first fixed.Hash refl
 
 pub says_ends : (k : Option TokenKind) → says_first k ≡ true → ends_body k ≡ false
-says_ends (Some (kind.Mark mark.Semicolon)) h = refl
-says_ends (Some (kind.Mark mark.LeftCurly)) h = refl
-says_ends (Some (kind.Word word.Int)) h = refl
-says_ends (Some (kind.Word word.If)) h = refl
-says_ends (Some (kind.Word word.While)) h = refl
-says_ends (Some (kind.Word word.For)) h = refl
-says_ends (Some (kind.Word word.Pause)) h = refl
-says_ends (Some (kind.Word word.Par)) h = refl
-says_ends (Some (kind.Word word.Weak)) h = refl
-says_ends (Some (kind.Word word.Abort)) h = refl
-says_ends (Some (kind.Word word.Return)) h = refl
-says_ends (Some (kind.Name id)) h = refl
-says_ends (Some (kind.Mark mark.PlusPlus)) h = refl
-says_ends (Some (kind.Mark mark.MinusMinus)) h = refl
-says_ends _ h = absurd (cc)
+says_ends None h = absurd (let e : false ≡ true = h in cc)
+says_ends (Some k) h = other-kind says_first fixed.RightCurly refl (Some k) h
+
+-- ---- what ends a list
+
+pub curly_ends : (t : Token) → IsMark mark.RightCurly t → ends (Some t.kind) ≡ true
+curly_ends t h = rw h
+
+pub curly_comma : (t : Token) → IsMark mark.RightCurly t → is_fixed fixed.Comma (Some t.kind) ≡ false
+curly_comma t h = rw h
+
+pub semicolon_ends : (t : Token) → IsMark mark.Semicolon t → ends (Some t.kind) ≡ true
+semicolon_ends t h = rw h
+
+pub semicolon_comma : (t : Token) → IsMark mark.Semicolon t → is_fixed fixed.Comma (Some t.kind) ≡ false
+semicolon_comma t h = rw h

@@ -20,7 +20,7 @@ use Rattle.expr_parser.proofs.Exact.{Lang, Exact, Bind, both, Map, mapped, Done,
 use Rattle.expr_parser.proofs.Leaves.{Tok, tok, NameIs, name_is, NumberIs, number_is, token, a_name, a_number, Enclosed, EnclosedBy, between, encloses, enclosing, is_so}
 use Rattle.expr_parser.proofs.Operators.{ends, ends_square, ends_assign}
 use Rattle.expr_parser.proofs.ExpressionComplete.{begun_whole, begun_semicolon}
-use Rattle.forec_parser.proofs.Marks.{acts_first, acts_semicolon, acts_round, acts_int}
+use Rattle.forec_parser.proofs.Marks.{acts_first, acts_semicolon, acts_round, acts_int, curly_ends, curly_comma}
 use Rattle.forec_parser.proofs.SimpleRules.{a_value, value_reads, values_by, values_read, a_simple, simple_reads, ActsFirst, simple_first}
 
 module _ (limit : ℕ) where
@@ -74,12 +74,6 @@ module _ (limit : ℕ) where
 
   pub braced_by : Exact limit (st.listed_values limit) (Part Any Braced) (Reading limit (st.listed_values limit))
   braced_by = by_reading a_braced.sound
-
-  curly_ends : (t : Token) → IsMark mark.RightCurly t → ends (Some t.kind) ≡ true
-  curly_ends t h = rw h
-
-  curly_comma : (t : Token) → IsMark mark.RightCurly t → is_fixed fixed.Comma (Some t.kind) ≡ false
-  curly_comma t h = rw h
 
   braced_reads : {v : ℕ} {xs : List Term} {ls : List Spelt} {k : Option TokenKind} → Braced xs v ls → Reading limit (st.listed_values limit) v xs v ls k
   braced_reads (braced right hl s hr) = reads_by a_braced (encloses right hl (λ small. values_read limit s small (curly_ends right hr) (curly_comma right hr)) hr)

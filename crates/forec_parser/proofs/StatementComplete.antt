@@ -28,7 +28,7 @@ use Rattle.expr_parser.proofs.Exact.{Exact, Any, by_reading, Part, part, both, m
 use Rattle.expr_parser.proofs.Leaves.{tok, last, over, name_is, token, encloses, Listed, end_of_list, next_of_list, Full, full, Filled, filled-long, is_so}
 use Rattle.expr_parser.proofs.Operators.{ends, ends_round}
 use Rattle.expr_parser.proofs.ExpressionComplete.{brackets_first, passes_first}
-use Rattle.forec_parser.proofs.Marks.{acts_simple, acts_says, says_first, says_else, says_hash, says_ends}
+use Rattle.forec_parser.proofs.Marks.{acts_simple, acts_says, says_first, says_else, says_hash, says_ends, semicolon_ends, semicolon_comma}
 use Rattle.forec_parser.proofs.SimpleRules.{list_reads, value_reads, bracketed_reads, passed_reads, simple_reads, ActsFirst, simple_first}
 use Rattle.forec_parser.proofs.PartRules.{local_reads, bound_reads, head_reads}
 use Rattle.forec_parser.proofs.StatementSound.{Calm, flag_reads, a_called, sound_stmt, BracesBy, a_block, a_launch, a_launches, AbortRest, x_empty, x_group, x_declaring, x_acting, x_branching, x_looping, x_counting, x_pausing, x_par_statement, x_abort_statement, x_return_statement}
@@ -72,12 +72,6 @@ says_begin (pauses h m) = rw h
 says_begin (forks semicolon h f m) = rw h
 says_begin (aborts t when semicolon w h b m f c n) = abort_first _ w (rw h)
 says_begin (gives_back semicolon h s m) = rw h
-
-semicolon_ends : (t : Token) → IsMark mark.Semicolon t → ends (Some t.kind) ≡ true
-semicolon_ends t h = rw h
-
-semicolon_comma : (t : Token) → IsMark mark.Semicolon t → is_fixed fixed.Comma (Some t.kind) ≡ false
-semicolon_comma t h = rw h
 
 round_ends : (t : Token) → IsMark mark.RightRound t → ends (Some t.kind) ≡ true
 round_ends t h = rw h

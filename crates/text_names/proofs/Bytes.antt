@@ -49,33 +49,41 @@ name_plain (b ∷ bs) h = (plain_goes_on b (letter_goes_on b h.0), each_plain bs
 
 -- ---- a number in decimals
 
-abbrev wrong_digit : ℕ → Bool
-wrong_digit d = not (is_plain_byte (digit_glyph false d))
-
-abbrev never : ℕ → Bool
+abbrev pub never : ℕ → Bool
 never b = false
 
-surely : (t : Bool) → not t ≡ false → t ≡ true
+pub surely : (t : Bool) → not t ≡ false → t ≡ true
 surely true h = refl
 surely false h = absurd cc
+
+-- where a test passes each digit, it passes the bytes of a number
+module _ (passes : ℕ → Bool) (digit : (n : ℕ) → passes (digit_glyph false (n % 10)) ≡ true) where
+  abbrev Pass : List ℕ → Type 0
+  Pass = AllByRecursion (λ b. passes b ≡ true)
+
+  digits_pass : (k n : ℕ) (acc : List ℕ) → Pass acc → Pass (digits_onto k 10 false n acc)
+  digits_pass zero n acc h = h
+  digits_pass (suc k) n acc h = by (n / 10 == 0) (digits_pass k (n / 10) (digit_glyph false (n % 10) ∷ acc) (digit n, h))
+    where
+      by : (t : Bool) → Pass (digits_onto k 10 false (n / 10) (digit_glyph false (n % 10) ∷ acc)) →
+          Pass (cond t (digit_glyph false (n % 10) ∷ acc) (digits_onto k 10 false (n / 10) (digit_glyph false (n % 10) ∷ acc)))
+      by true r = (digit n, h)
+      by false r = r
+
+  pub decimal_passes : (n : ℕ) → Pass (decimal n)
+  unfolding digits
+  decimal_passes n = digits_pass 64 n [] tt
+
+abbrev wrong_digit : ℕ → Bool
+wrong_digit d = not (is_plain_byte (digit_glyph false d))
 
 glyph_plain : (n : ℕ) → is_plain_byte (digit_glyph false (n % 10)) ≡ true
 glyph_plain n =
     let small : n % 10 < 10 = omega arith in
     surely (is_plain_byte (digit_glyph false (n % 10))) (agree_below_at wrong_digit never 10 (n % 10) refl small)
 
-digits_plain : (k n : ℕ) (acc : List ℕ) → IsPlainName acc → IsPlainName (digits_onto k 10 false n acc)
-digits_plain zero n acc h = h
-digits_plain (suc k) n acc h = by (n / 10 == 0) (digits_plain k (n / 10) (digit_glyph false (n % 10) ∷ acc) (glyph_plain n, h))
-  where
-    by : (t : Bool) → IsPlainName (digits_onto k 10 false (n / 10) (digit_glyph false (n % 10) ∷ acc)) →
-        IsPlainName (cond t (digit_glyph false (n % 10) ∷ acc) (digits_onto k 10 false (n / 10) (digit_glyph false (n % 10) ∷ acc)))
-    by true r = (glyph_plain n, h)
-    by false r = r
-
 decimal_plain : (n : ℕ) → IsPlainName (decimal n)
-unfolding digits
-decimal_plain n = digits_plain 64 n [] tt
+decimal_plain n = decimal_passes is_plain_byte glyph_plain n
 
 -- ---- the name of a variable
 

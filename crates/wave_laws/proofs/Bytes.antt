@@ -1,7 +1,7 @@
 -- The bytes of the last line of a report.
-use Rattle.std.proofs.Common.{◌≡◌, ℕ, zero, suc, ◌+◌, ◌-◌, ◌<◌, ◌≤◌, ◌%◌, ◌/◌, Bool, true, false, cond, not, ◌&&◌, ◌==◌, List, [], ◌∷◌, ◌++◌, length, length-append, codes, decimal, refl, arith, Option, Some, None}
+use Rattle.std.proofs.Common.{◌≡◌, ℕ, ◌+◌, ◌-◌, ◌<◌, ◌%◌, Bool, true, false, not, List, [], ◌∷◌, ◌++◌, length, codes, decimal, refl, arith, Option, Some, None}
 use Rattle.std.specs.List.{AllByRecursion}
-use Rattle.std.specs.Fmt.{digits, digits_onto, digit_glyph}
+use Rattle.std.specs.Fmt.{digit_glyph}
 use Rattle.std.proofs.lemmas.Bool.{agree_below_at}
 use Rattle.forec_base.specs.declared.Place.{Place}
 use Rattle.forec_base.specs.declared.Trap.{Trap}
@@ -10,7 +10,8 @@ use Rattle.forec_kernel.specs.declared.shape.Outcome.{Outcome}
 use Rattle.forec_kernel.specs.declared.shape.Outcome.TheVariants as outcome
 use Rattle.forec_kernel.specs.Shapes.{PlainKernel}
 use Rattle.forec_kernel.specs.Ticks.{TickState, tick}
-use Rattle.trace_rows.specs.Report.{end_words, trap_word, trap_words, over_words, rows_words, fault_word, row_words}
+use Rattle.text_names.proofs.Bytes.{all_append, never, surely, decimal_passes}
+use Rattle.trace_rows.specs.Report.{end_words, trap_word, trap_words, over_words, fault_word}
 use Rattle.trace_rows.specs.Trace.{Row, TraceEnd}
 use Rattle.trace_rows.specs.declared.fault.RowFault.{RowFault}
 use Rattle.trace_rows.specs.declared.fault.RowFault.TheVariants as fault
@@ -26,38 +27,20 @@ abbrev pub AreLineBytes : List ℕ → Type 0
 AreLineBytes = AllByRecursion (λ b. is_ending_byte b ≡ true)
 
 joined : (xs ys : List ℕ) → AreLineBytes xs → AreLineBytes ys → AreLineBytes (xs ++ ys)
-joined [] ys h g = g
-joined (x ∷ xs) ys h g = (h.0, joined xs ys h.1 g)
+joined xs ys h g = all_append (λ b. is_ending_byte b ≡ true) xs ys h g
 
 -- ---- a number in decimals
 
 abbrev wrong_digit : ℕ → Bool
 wrong_digit d = not (is_ending_byte (digit_glyph false d))
 
-abbrev never : ℕ → Bool
-never b = false
-
-surely : (t : Bool) → not t ≡ false → t ≡ true
-surely true h = refl
-surely false h = absurd cc
-
 glyph_shows : (n : ℕ) → is_ending_byte (digit_glyph false (n % 10)) ≡ true
 glyph_shows n =
     let small : n % 10 < 10 = omega arith in
     surely (is_ending_byte (digit_glyph false (n % 10))) (agree_below_at wrong_digit never 10 (n % 10) refl small)
 
-digits_show : (k n : ℕ) (acc : List ℕ) → AreLineBytes acc → AreLineBytes (digits_onto k 10 false n acc)
-digits_show zero n acc h = h
-digits_show (suc k) n acc h = by (n / 10 == 0) (digits_show k (n / 10) (digit_glyph false (n % 10) ∷ acc) (glyph_shows n, h))
-  where
-    by : (t : Bool) → AreLineBytes (digits_onto k 10 false (n / 10) (digit_glyph false (n % 10) ∷ acc)) →
-        AreLineBytes (cond t (digit_glyph false (n % 10) ∷ acc) (digits_onto k 10 false (n / 10) (digit_glyph false (n % 10) ∷ acc)))
-    by true r = (glyph_shows n, h)
-    by false r = r
-
 decimal_shows : (n : ℕ) → AreLineBytes (decimal n)
-unfolding digits
-decimal_shows n = digits_show 64 n [] tt
+decimal_shows n = decimal_passes is_ending_byte glyph_shows n
 
 -- ---- the words of each last line
 

@@ -1,14 +1,14 @@
 -- The rows of a trace: how many there are, and what their numbers are.
-use Rattle.std.proofs.Common.{◌≡◌, ◌≢◌, ℕ, zero, suc, ◌+◌, ◌-◌, ◌<◌, ◌≤◌, ◌==◌, ℤ, pos, negsuc, neg_ℤ, Bool, true, false, cond, if◌then◌else◌, nat_le, nat_lt, Option, Some, None, Result, Ok, Err, List, [], ◌∷◌, length, map, replicate, refl, sym, ap, subst, ◌∙◌, arith, FitsSigned, w32}
-use Rattle.std.specs.Prelude.{slice_index_or, slice_set, codes}
-use Rattle.std.specs.List.{AllByRecursion, after_first, before_first, position, list_all}
+use Rattle.std.proofs.Common.{◌≡◌, ℕ, zero, suc, ◌+◌, ◌-◌, ◌≤◌, ◌==◌, ℤ, pos, neg_ℤ, Bool, true, false, if◌then◌else◌, nat_le, nat_lt, Option, Some, None, Result, Ok, Err, List, [], ◌∷◌, length, replicate, refl, ap, subst, ◌∙◌, arith, FitsSigned, w32}
+use Rattle.std.specs.Prelude.{slice_index_or, slice_set}
+use Rattle.std.specs.List.{AllByRecursion, after_first, before_first, position}
 use Rattle.std.specs.Option.{option_map, option_and_then}
 use Rattle.std.specs.Str.{bytes_eq}
 use Rattle.std.proofs.lemmas.Bool.{leb-true, ltb-false}
-use Rattle.trace_rows.specs.Changes.{is_equals, change_in, changed_row, row_behind}
+use Rattle.trace_rows.specs.Changes.{is_equals, change_in, changed_row}
 use Rattle.trace_rows.specs.Lines.{lines_of}
 use Rattle.trace_rows.specs.Numbers.{magnitude_of, positive, negative, word_number}
-use Rattle.trace_rows.specs.Trace.{Row, Trace, Form, InOrder, Changes, most_line_bytes, names_each, places_of, is_mark, first_form, form_of, or_bad, header_at, word_numbers, arranged, numbers_in, row_of, row_at, next_form, form_after, stop, onto, rows_from, behind, rows_of_lines, trace_of}
+use Rattle.trace_rows.specs.Trace.{Row, Trace, Form, InOrder, Changes, most_line_bytes, names_each, places_of, is_mark, first_form, form_of, or_bad, header_at, word_numbers, arranged, row_of, row_at, next_form, form_after, onto, rows_from, behind, rows_of_lines, trace_of}
 use Rattle.trace_rows.specs.Words.{line_words}
 use Rattle.trace_rows.specs.declared.fault.RowFault.{RowFault}
 use Rattle.trace_rows.specs.declared.fault.RowFault.TheVariants as fault

@@ -1,18 +1,18 @@
 -- What is told of ticks: values of each output, in so many ticks at most.
-use Rattle.std.proofs.Common.{◌≡◌, ◌≢◌, ℕ, zero, suc, ◌+◌, ◌≤◌, ℤ, List, [], ◌∷◌, ◌++◌, length, map, refl, sym, ap, subst, ◌∙◌, arith, add-one, replicate, Some, None, FitsSigned, w32}
+use Rattle.std.proofs.Common.{◌≡◌, ◌≢◌, ℕ, suc, ◌+◌, ◌≤◌, ℤ, List, [], ◌∷◌, ◌++◌, length, map, refl, sym, ap, ◌∙◌, arith, add-one, Some, None}
 use Rattle.std.specs.List.{AllByRecursion}
 use Rattle.std.proofs.lemmas.List.{length-map}
 use Rattle.forec_kernel.specs.declared.shape.Outcome.{Outcome}
 use Rattle.forec_kernel.specs.declared.shape.Outcome.TheVariants as outcome
 use Rattle.forec_kernel.specs.Shapes.{PlainKernel}
-use Rattle.forec_kernel.specs.Ticks.{TickState, Fresh, Tick, tick}
+use Rattle.forec_kernel.specs.Ticks.{TickState, Tick, tick}
 use Rattle.dump_report.specs.Told.{told_ticks}
 use Rattle.trace_rows.specs.Trace.{Row}
-use Rattle.trace_runs.specs.Formats.{tick_written, format_after}
+use Rattle.trace_runs.specs.Formats.{tick_written}
 use Rattle.trace_runs.specs.KernelNames.{output_names}
 use Rattle.trace_runs.specs.OneRun.{told_after, values_from, ticks_written}
 use Rattle.trace_runs.specs.declared.format.Format.TheVariants as format
-use Rattle.value_ranges.specs.Laws.{FitReached, at_first, after, TickWords, TicksFit}
+use Rattle.value_ranges.specs.Laws.{FitReached, after, TickWords, TicksFit}
 use Rattle.value_ranges.specs.Words.{AreWords, KernelWords}
 use Rattle.wave_dump.specs.Wave.{AreValues, tick_text, ticks_text, no_values}
 use Rattle.wave_dump.specs.Writing.{none_yet}

@@ -1,24 +1,22 @@
 -- The dump of a run tells the run.
-use Rattle.std.proofs.Common.{◌≡◌, ℕ, ◌+◌, ◌-◌, ◌<◌, ◌≤◌, ◌^◌, List, [], ◌++◌, length, refl, sym, ap, subst, ◌∙◌, arith, append_assoc, codes}
-use Rattle.forec_base.specs.declared.limits.TheConstants.{MAX_ROWS, MAX_OUTPUTS, MAX_TEXT_BYTES}
+use Rattle.std.proofs.Common.{◌≡◌, ℕ, ◌≤◌, List, ◌++◌, length, sym, ap, subst, ◌∙◌, arith, append_assoc, codes}
+use Rattle.forec_base.specs.declared.limits.TheConstants.{MAX_ROWS, MAX_TEXT_BYTES}
 use Rattle.forec_kernel.specs.Shapes.{PlainKernel}
 use Rattle.forec_kernel.specs.Ticks.{Fresh}
-use Rattle.dump_report.specs.Told.{ToldReport, told_lines, told_report, dump_report}
+use Rattle.dump_report.specs.Told.{told_lines, told_report, dump_report}
 use Rattle.dump_report.specs.declared.status.DumpStatus.TheVariants as told
-use Rattle.trace_rows.specs.Trace.{Trace, trace_of}
-use Rattle.trace_runs.specs.Formats.{opening, last_written}
+use Rattle.trace_rows.specs.Trace.{trace_of}
 use Rattle.trace_runs.specs.KernelNames.{input_names, output_names, run_format}
-use Rattle.trace_runs.specs.OneRun.{ticks_written, run_values, run_words, FormatsWriteOneRun, FormatsGiveOneStatus}
-use Rattle.trace_runs.specs.Report.{Report, trace_report}
-use Rattle.trace_runs.specs.declared.format.Format.TheVariants as format
+use Rattle.trace_runs.specs.OneRun.{run_values, run_words, FormatsWriteOneRun, FormatsGiveOneStatus}
+use Rattle.trace_runs.specs.Report.{trace_report}
 use Rattle.trace_runs.specs.declared.format.Telling.TheVariants as telling
 use Rattle.value_ranges.specs.Laws.{TicksFit, at_first}
 use Rattle.wave_dump.specs.Wave.{PlainDump, IsDump, head_text, ticks_text, no_values, until_ending, tail_text, wave_text}
 use Rattle.wave_dump.specs.Writing.{none_yet}
-use Rattle.wave_laws.specs.Laws.{TellsRun, DumpsTellRuns}
+use Rattle.wave_laws.specs.Laws.{DumpsTellRuns}
 use Rattle.wave_laws.specs.Runs.{CanDump, run_dump}
 use Rattle.wave_laws.proofs.Bytes.{IsLine, line_from}
-use Rattle.wave_laws.proofs.Rows.{GoodRows, trace_good}
+use Rattle.wave_laws.proofs.Rows.{trace_good}
 use Rattle.wave_laws.proofs.Values.{GoodValues, values_good, none_are, wave_writes, report_writes}
 
 module _ (limit : ℕ) (k : PlainKernel) (budget : ℕ) (bytes : List ℕ) where

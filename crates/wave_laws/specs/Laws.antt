@@ -2,7 +2,7 @@
 use Rattle.std.specs.Prelude.{◌≡◌, ◌≤◌, ℕ, List, length}
 use Rattle.forec_base.specs.declared.limits.TheConstants.{MAX_ROWS, MAX_TEXT_BYTES}
 use Rattle.forec_kernel.specs.Shapes.{PlainKernel}
-use Rattle.dump_report.specs.Told.{ToldReport, told_lines, dump_report}
+use Rattle.dump_report.specs.Told.{told_lines, dump_report}
 use Rattle.dump_report.specs.declared.status.DumpStatus.TheVariants as told
 use Rattle.text_verdict.specs.Judging.{Accepts, Judged}
 use Rattle.text_verdict.specs.declared.counts.Counts.{Counts}
