@@ -31,7 +31,8 @@ use Rattle.core_seats.specs.Done.{InJob, through}
 use Rattle.core_seats.specs.Keeping.{SchedulerState, code_in, IsSeated, LastReply, last, AtFork}
 use Rattle.core_seats.specs.Waiting.{jobs_out, HasTold, IsForked, IsGathering, IsWorking, IsWaiting, IsAtRest, RestsOrWaits, rests}
 use Rattle.core_seats.specs.Serving.{ChangesBranches, Touches}
-use Rattle.core_seats.proofs.Mails.{children_count, child_here, child_else, parent_on_child, is_child, extends_same, extends_one}
+use Rattle.copy_slots.proofs.PortLemmas.{child_here, child_else, parent_on_child}
+use Rattle.core_seats.proofs.Mails.{children_count, is_child, extends_same, extends_one}
 use Rattle.tick_jobs.proofs.Lists.{by_equal, get_set, get_set_else, length_then}
 use Rattle.core_seats.proofs.KeepingLemmas.{done_keeps}
 use Rattle.tick_jobs.proofs.Pairs.{same_test, no_pairs}

@@ -30,7 +30,8 @@ use Rattle.core_seats.specs.Changes.{Extends}
 use Rattle.core_seats.specs.Done.{HasDone, InJob, through}
 use Rattle.core_seats.specs.Keeping.{SchedulerState, code_in, KeepsPort, KeepsBelow, IsSeated, LastReply, none, last, Idle, QuietAbove, LacksPacket, IsBack}
 use Rattle.core_seats.specs.Following.{HasFollowed}
-use Rattle.core_seats.proofs.Mails.{children_count, child_here, child_else, parent_on_child, is_child, extends_same, extends_one}
+use Rattle.copy_slots.proofs.PortLemmas.{child_here, child_else, parent_on_child}
+use Rattle.core_seats.proofs.Mails.{children_count, is_child, extends_same, extends_one}
 use Rattle.tick_jobs.proofs.Lists.{by_equal, get_set, get_set_else}
 use Rattle.core_seats.proofs.KeepingLemmas.{same_child, done_keeps, quiet_keeps, leaves_then, leaves_less, seated_keeps}
 use Rattle.tick_jobs.proofs.Branching.{branch_above, has_parent}
