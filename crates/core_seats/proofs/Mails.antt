@@ -100,6 +100,9 @@ module _ (s : SchedulerState) (k : ℕ) (f : Sender PlainPacket → Sender Plain
     pub got_before : got s.mail k ≡ x.got
     got_before = ap got_by is
 
+pub alike_same : (a : Mail) → KeepsPort a a
+alike_same a = record { work = refl; blanks = refl; tells = refl; root = refl; count = refl; stops = extends_same _ _ refl }
+
 pub alike_then : (a b c : Mail) → KeepsPort a b → KeepsPort b c → KeepsPort a c
 alike_then a b c h g = record { work = g.work ∙ h.work; blanks = g.blanks ∙ h.blanks; tells = g.tells ∙ h.tells; root = g.root ∙ h.root; count = g.count ∙ h.count; stops = extends_then _ _ _ h.stops g.stops }
 
@@ -127,7 +130,7 @@ handed_moves s k = record {
   code = refl;
   places = refl;
   seats = refl;
-  alike = record { work = refl; blanks = refl; tells = refl; root = refl; count = refl; stops = extends_same _ _ refl };
+  alike = alike_same s.mail;
   parents = λ j n. refl;
   looked = extends_same _ _ refl;
   children = λ j. refl;
