@@ -2,11 +2,11 @@
 use Rattle.std.proofs.Common.{ℕ, ◌<◌, ◌≤◌, ◌≡◌, ◌⊎◌, inl, inr, Some, List, [], ◌∷◌, ◌++◌, map, length, refl, sym, ap, subst, ◌∙◌, append_assoc, append-nil, arith}
 use Rattle.forec_kernel.specs.declared.shape.VarCopy.{VarCopy}
 use Rattle.forec_kernel.specs.declared.shape.Outcome.TheVariants as outcome
-use Rattle.forec_kernel.specs.Composed.{TickInput, MeansReply, next_state, state_after, tick_jobs, tick_job}
-use Rattle.forec_kernel.specs.Engine.{Job, Start, Wake, Reply, WasPaused, WasEnded, WasTrapped, WasOver, Exchange, Output, Nothing, last_reply, AllReply}
+use Rattle.forec_kernel.specs.Composed.{TickInput, state_after, tick_jobs, tick_job}
+use Rattle.forec_kernel.specs.Engine.{Job, Start, Wake, Reply, WasPaused, Exchange, Output, Nothing, last_reply, AllReply}
 use Rattle.forec_kernel.specs.Shapes.{PlainKernel}
 use Rattle.forec_kernel.specs.Solo.{Solo, kernel_engine, KernelAlone}
-use Rattle.forec_kernel.specs.Ticks.{TickState, Fresh, Tick, tick}
+use Rattle.forec_kernel.specs.Ticks.{Fresh, tick}
 use Rattle.forec_kernel.specs.WellFormed.{WellFormed}
 use Rattle.forec_kernel.proofs.SoloTotal.{solo_total}
 use Rattle.forec_kernel.proofs.Distinct.{branches_apart}

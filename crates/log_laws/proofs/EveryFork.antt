@@ -1,11 +1,10 @@
 -- Where a thread of a valid code by itself comes to a fork, a branch that it wakes has paused, and there were not too many forks.
-use Rattle.std.proofs.Common.{◌≡◌, ℕ, zero, suc, ◌+◌, ◌-◌, ◌*◌, ◌<◌, ◌≤◌, ◌==◌, Bool, true, false, cond, Some, None, List, [], ◌∷◌, ◌++◌, map, length, get_or, refl, sym, ap, ◌∙◌, subst, append_assoc, append-nil, arith}
-use Rattle.std.specs.Prelude.{slice_get, replicate}
+use Rattle.std.proofs.Common.{◌≡◌, ℕ, zero, suc, ◌+◌, ◌-◌, ◌*◌, ◌<◌, ◌≤◌, ◌==◌, Bool, true, false, Some, None, List, [], ◌∷◌, ◌++◌, map, length, refl, sym, ap, ◌∙◌, subst, append_assoc, append-nil, arith}
 use Rattle.std.proofs.lemmas.Option.{slice_get_within}
 use Rattle.forec_kernel.specs.Engine.{Job, Start, Wake, allowance_of, Reply, WasPaused, Seed, Starts, Wakes, Written, written, AtFork, Engine, run_for, Rest, Asleep, Nothing, Exchange, Output, AtEvent, RunsOn, over, event, IfElse, Begins, Serves, Alone, Answered, pair_up, pair_forks, pair_all, answers_with, ends_at, first_jobs}
 use Rattle.forec_kernel.specs.Reached.{AtRest, Inside, Reached, none, begun, stepped, joined, answered}
 use Rattle.thread_code.specs.Plain.{PlainCode}
-use Rattle.thread_code.specs.Valid.{IsValidCode, costs}
+use Rattle.thread_code.specs.Valid.{IsValidCode}
 use Rattle.thread_code.specs.Machine.{Machine, On, Waits, Merges, Failing, Paused, Ended, Trapped, Exceeded, Stuck, step, join}
 use Rattle.thread_code.specs.Alone.{block_of, view_of, machine_units, code_engine, CodeAlone}
 use Rattle.thread_code.proofs.Unstuck.{Good, reached_good}

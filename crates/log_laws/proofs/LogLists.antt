@@ -1,11 +1,10 @@
 -- What was told, logged and put into a log.
-use Rattle.std.proofs.Common.{ℕ, suc, ◌≡◌, ◌==◌, Bool, true, false, cond, Some, List, [], ◌∷◌, ◌++◌, map, length, refl, sym, ap, subst, ◌∙◌, arith, append_assoc, append-nil}
+use Rattle.std.proofs.Common.{ℕ, ◌≡◌, ◌==◌, Bool, true, false, cond, Some, List, [], ◌∷◌, ◌++◌, refl, sym, ap, subst, ◌∙◌, arith}
 use Rattle.std.proofs.lemmas.Bool.Decides.{nat_tests}
 use Rattle.forec_kernel.specs.declared.shape.VarCopy.{VarCopy}
-use Rattle.forec_kernel.specs.Engine.{Job, Start, Wake, Reply, WasPaused, WasOver, Written, Exchange, Output, Answered, pair_forks, pair_all, AllReply}
-use Rattle.forec_kernel.specs.Shapes.{PlainShape}
+use Rattle.forec_kernel.specs.Engine.{Job, Start, Wake, Reply, WasPaused, Written, Output, Answered}
 use Rattle.forec_kernel.proofs.Apart.{NotIn, EachApart, AllApart}
-use Rattle.exchange_meaning.specs.Logged.{Logged, ExchangeLog, jobs_in, RepliesAre, logged, told_to, AreTold}
+use Rattle.exchange_meaning.specs.Logged.{Logged, ExchangeLog, jobs_in, RepliesAre, logged, told_to}
 use Rattle.exchange_meaning.proofs.OneMore.{same_self}
 use Rattle.exchange_meaning.proofs.TellingLemmas.{equal_number}
 use Rattle.tick_jobs.specs.Branches.{replies_to}

@@ -2,7 +2,7 @@
 use Rattle.std.proofs.Common.{ℕ, zero, suc, ◌+◌, ◌-◌, ◌<◌, ◌≤◌, ◌≡◌, ◌==◌, ◌⊎◌, inl, inr, Bool, true, false, cond, None, Some, List, [], ◌∷◌, ◌++◌, map, length, take, refl, sym, ap, subst, ◌∙◌, arith, append_assoc, append-nil}
 use Rattle.std.proofs.lemmas.List.{length-map}
 use Rattle.std.proofs.lemmas.Bool.{cases_lt}
-use Rattle.forec_kernel.specs.Engine.{Job, Start, Wake, Reply, WasPaused, WasEnded, WasTrapped, WasOver, Seed, Written, written, View, Going, AtFork, Pausing, Ending, Trapping, Exceeding, Engine, Rest, Asleep, Nothing, Exchange, Output, Alone, allowance_of, Answered, pair_up, pair_forks, pair_all, AllReply, last_reply, AtEvent, IsStopped, Reaches, over, event, first_jobs, ends_at, answers_with, IfElse, Serves, Begins}
+use Rattle.forec_kernel.specs.Engine.{Job, Start, Wake, Reply, WasPaused, WasEnded, WasTrapped, WasOver, Seed, Written, written, View, Going, AtFork, Pausing, Ending, Trapping, Exceeding, Engine, Rest, Asleep, Nothing, Exchange, Output, Alone, allowance_of, Answered, pair_up, pair_forks, pair_all, AllReply, last_reply, AtEvent, IsStopped, Reaches, over, event, first_jobs, ends_at, answers_with, Serves, Begins}
 use Rattle.forec_kernel.specs.Shapes.{PlainShape}
 use Rattle.forec_kernel.proofs.Apart.{Apart, EachApart, AllApart}
 use Rattle.forec_kernel.proofs.Same.{IsTotal, serves_total}

@@ -72,6 +72,7 @@ module _ (g : Over) (c : In-Fork g) where
     replied = replies_now c.loop.self seated c.loop.thread c.run.new.self ran jobs job begun d keeps all
 
     were_heard : HaveHeard d c.run.new.self.branches.numbers replied.gathering.replies
+    unfolding replied
     were_heard = heard_now c.loop.self seated c.loop.thread c.run.new.self ran jobs job begun d keeps all
 
 pub await_fork-requires-clause-fork : goal.await_fork-requires-clause-fork
