@@ -14,6 +14,7 @@ use Rattle.tick_jobs.proofs.Rooms.{blank_room}
 use Rattle.tick_jobs.proofs.TickOutcome.{blank_of}
 use Rattle.core_host.proofs.Newly.{is_new}
 use Rattle.core_host.proofs.host.Host.load_with.Given.{Over}
+use Rattle.core_host.proofs.host.Host.load_with.Goals.{In_ok-cores}
 use Rattle.core_host.proofs.host.Host.load_with.Goals as goal
 
 pub invariant_of-result : goal.invariant_of-result
@@ -25,10 +26,10 @@ invariant_of-result g c =
     )
 
 -- the host that was made
-abbrev host_of : (g : Over) → goal.In_ok-cores g → Hosted
+abbrev host_of : (g : Over) → In_ok-cores g → Hosted
 host_of g c = hosted (record { code = c.args.code.now; places = c.in_ok-places.places.items; mail = g.P.Port.state c.args.port; seats = c.in_ok-seats.seats.items; hands = c.in_ok-hands.hands.items }) c.in_ok-cores.cores.items c.in_ok-root.root true None
 
-made : (g : Over) (c : goal.In_ok-cores g) → IsHosted (host_of g c) × IsNewHost c.args.code.now c.args.placement.now c.args.cores.now (g.P.Port.state c.args.port) (host_of g c)
+made : (g : Over) (c : In_ok-cores g) → IsHosted (host_of g c) × IsNewHost c.args.code.now c.args.placement.now c.args.cores.now (g.P.Port.state c.args.port) (host_of g c)
 made g c =
     let s = (plain_code c.args.code.now).shape in
     let valid = c.parts.ensures.valid in
