@@ -142,10 +142,31 @@ job_on s h root packets jobs job i = record {
 pub packets_after : (s : SchedulerState) (h : Thread) → h.number ≡ 0 → (jobs : List Job) (job : Job) → IsOnJob s h jobs job → (k : ℕ) → k < length s.mail.ends → IsBranchOf (code_in s).shape 0 k → HasPacket s k
 packets_after s h root jobs job on k lt mine = on.told.has k lt (subst (λ t. IsBranchOf (code_in s).shape t k) (sym root) mine) (λ o. o)
 
--- a tick's job, from thread 0's seat and back into it
-module _ (s0 : SchedulerState) (seated : IsSeated s0) (root : RootRests s0) (packets : (k : ℕ) → k < length s0.mail.ends → IsBranchOf (code_in s0).shape 0 k → HasPacket s0 k) (code : CodeParts) (places : List ℕ) (mail : Mail) (seats : List Seat) (hands : List (Option Packet))
-    (view : state code places mail seats hands ≡ s0) (x : Seat) (read : x ≡ slice_index_or seats 0 x) (found : Option Thread) (value : found ≡ x.thread) (h : Thread) (is : found ≡ Some h) (y : Seat) (p : Packet) (h1 : Thread) (number : h1.number ≡ h.number)
-    (stands : (xs : List Exchange) (job : Job) → IsJob (plain_packet p) job → StandsFor (plain_code code) h xs → StandsFor (plain_code code) h1 (xs ++ record { job = job; replies = [] } ∷ [])) where
+-- thread 0 is taken out of its seat for a tick's job
+pub record TakesUp (s0 : SchedulerState) : Type 0 where
+  pub root : RootRests s0
+  pub packets : (k : ℕ) → k < length s0.mail.ends → IsBranchOf (code_in s0).shape 0 k → HasPacket s0 k
+  pub code : CodeParts
+  pub places : List ℕ
+  pub mail : Mail
+  pub seats : List Seat
+  pub hands : List (Option Packet)
+  pub view : state code places mail seats hands ≡ s0
+  pub x : Seat
+  pub read : x ≡ slice_index_or seats 0 x
+  pub found : Option Thread
+  pub value : found ≡ x.thread
+  pub h : Thread
+  pub is : found ≡ Some h
+  pub y : Seat
+  pub p : Packet
+  pub h1 : Thread
+  pub number : h1.number ≡ h.number
+  pub stands : (xs : List Exchange) (job : Job) → IsJob (plain_packet p) job → StandsFor (plain_code code) h xs → StandsFor (plain_code code) h1 (xs ++ record { job = job; replies = [] } ∷ [])
+
+module _ (s0 : SchedulerState) (seated : IsSeated s0) (taken : TakesUp s0) where
+  open taken use {root, packets, code, places, mail, seats, hands, view, x, read, found, value, h, is, y, p, h1, number, stands}
+
   abbrev pub up : SchedulerState
   up = state code places mail (slice_set seats 0 y) hands
 
@@ -173,8 +194,29 @@ module _ (s0 : SchedulerState) (seated : IsSeated s0) (root : RootRests s0) (pac
   pub up_begun : (job : Job) → IsJob (plain_packet p) job → IsOnJob up h1 root.jobs job
   up_begun job isjob = on_up root.jobs job (in_job1 s0 seated.valid root code places mail seats hands view x read found value h is y p h1 number stands root.thread root.sits root.jobs job root.done isjob).0
 
-  module _ (s3 : SchedulerState) (h2 : Thread) (root2 : h2.number ≡ 0) (loaded2 : Loaded (code_in up) h2) (replied : HasReply h2) (keeps : KeepsOthers up s3) (done3 : (jobs : List Job) (job : Job) → IsOnJob up h1 jobs job → IsOnJob s3 h2 jobs job) (code2 : CodeParts) (places2 : List ℕ) (mail2 : Mail)
-      (seats2 : List Seat) (hands2 : List (Option Packet)) (view2 : state code2 places2 mail2 seats2 hands2 ≡ s3) (p' : Packet) (gives : (xs : List Exchange) → StandsFor (plain_code code2) h2 xs → RepliesToLast (plain_code code2) h2.number xs (plain_packet p')) (z : Seat) (sits : z.thread ≡ Some h2) where
+  -- it has done the job, and goes back
+  pub record ComesDown : Type 0 where
+    pub s3 : SchedulerState
+    pub h2 : Thread
+    pub root2 : h2.number ≡ 0
+    pub loaded2 : Loaded (code_in up) h2
+    pub replied : HasReply h2
+    pub keeps : KeepsOthers up s3
+    pub done3 : (jobs : List Job) (job : Job) → IsOnJob up h1 jobs job → IsOnJob s3 h2 jobs job
+    pub code2 : CodeParts
+    pub places2 : List ℕ
+    pub mail2 : Mail
+    pub seats2 : List Seat
+    pub hands2 : List (Option Packet)
+    pub view2 : state code2 places2 mail2 seats2 hands2 ≡ s3
+    pub p' : Packet
+    pub gives : (xs : List Exchange) → StandsFor (plain_code code2) h2 xs → RepliesToLast (plain_code code2) h2.number xs (plain_packet p')
+    pub z : Seat
+    pub sits : z.thread ≡ Some h2
+
+  module _ (done : ComesDown) where
+    open done use {s3, h2, root2, loaded2, replied, keeps, done3, code2, places2, mail2, seats2, hands2, view2, p', gives, z, sits}
+
     abbrev pub down : SchedulerState
     down = state code2 places2 mail2 (slice_set seats2 0 z) hands2
 
