@@ -173,43 +173,17 @@ children_step k m n whole path (suc i) (child t R w c st rest) h e =
 
 -- ---- coming to rest
 
+rests_so : (k : PlainKernel) (m : ℕ) {n whole : ℕ} {One More : ℕ → ℕ → Type 0} (h : Shared n whole One More) (b : ℕ) (R : Text) (w : List ℤ) (c : List VarCopy) (st : Status) (rest : Threads) →
+    ChildRests k m h.whole1 b R w st → AllRest k m h.whole2 rest → AllRest k m whole (child b R w c st rest)
+rests_so k m h b R w c st rest one more = record { n1 = 0; n2 = 0; whole1 = h.whole1; whole2 = h.whole2; fits = omega arith; wholes = h.wholes; one = one; more = more }
+
 rests_by : (k : PlainKernel) (m n whole : ℕ) (cs : Threads) → AllWithin k m n whole cs → some_running cs ≡ false → first_trap cs ≡ None →
     AllRest k m whole (ended_are_gone cs)
 rests_by k m n whole no_threads h e t = tt
 rests_by k m n whole (child b R w c Running rest) h e t = cc
-rests_by k m n whole (child b R w c Paused rest) h e t =
-    record {
-      n1 = 0;
-      n2 = 0;
-      whole1 = h.whole1;
-      whole2 = h.whole2;
-      fits = omega arith;
-      wholes = h.wholes;
-      one = h.one;
-      more = rests_by k m h.n2 h.whole2 rest h.more e t;
-    }
-rests_by k m n whole (child b R w c Ended rest) h e t =
-    record {
-      n1 = 0;
-      n2 = 0;
-      whole1 = h.whole1;
-      whole2 = h.whole2;
-      fits = omega arith;
-      wholes = h.wholes;
-      one = tt;
-      more = rests_by k m h.n2 h.whole2 rest h.more e t;
-    }
-rests_by k m n whole (child b R w c Gone rest) h e t =
-    record {
-      n1 = 0;
-      n2 = 0;
-      whole1 = h.whole1;
-      whole2 = h.whole2;
-      fits = omega arith;
-      wholes = h.wholes;
-      one = tt;
-      more = rests_by k m h.n2 h.whole2 rest h.more e t;
-    }
+rests_by k m n whole (child b R w c Paused rest) h e t = rests_so k m h b R w c Paused (ended_are_gone rest) h.one (rests_by k m h.n2 h.whole2 rest h.more e t)
+rests_by k m n whole (child b R w c Ended rest) h e t = rests_so k m h b R w c Gone (ended_are_gone rest) tt (rests_by k m h.n2 h.whole2 rest h.more e t)
+rests_by k m n whole (child b R w c Gone rest) h e t = rests_so k m h b R w c Gone (ended_are_gone rest) tt (rests_by k m h.n2 h.whole2 rest h.more e t)
 rests_by k m n whole (child b R w c (Trapped place trap) rest) h e t = cc
 
 -- ---- waking

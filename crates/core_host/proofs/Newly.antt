@@ -68,8 +68,12 @@ module _ (code : CodeParts) (valid : IsValidCode (plain_code code)) (placement :
   abbrev st : SchedulerState
   st = record { code = code; places = placement.places; mail = mail; seats = seats; hands = hands }
 
-  abbrev pub new_host : Hosted
-  new_host = hosted st cores root true None
+  -- with the places and cores that it was made with, as they are read
+  abbrev pub host_with : List ℕ → List ℕ → Hosted
+  host_with places own = hosted (record st { places = places }) own root true None
+
+  abbrev new_host : Hosted
+  new_host = host_with placement.places cores
 
   abbrev on : ℕ → Bool
   on t = is_on placement.places cores t
@@ -170,7 +174,7 @@ module _ (code : CodeParts) (valid : IsValidCode (plain_code code)) (placement :
   new_descends k lt true here = inr (new_between k lt (false, (child_new (on (suc k)) (child_at mail.ends k) (can.children placed k lt) here).0))
   new_descends k lt false else = let s = seat_at (suc k) (in_threads k lt) in inl (record { seat = s.0; at = s.1; none = s.2.else else })
 
-  pub new_hosted : IsHosted new_host
+  new_hosted : IsHosted new_host
   new_hosted = record {
     valid = valid;
     work = can.work;
@@ -203,7 +207,7 @@ module _ (code : CodeParts) (valid : IsValidCode (plain_code code)) (placement :
   unfolding HasRun
   new_none here = record { live = refl; blank = is_blank; turns = λ k fine stands. record { jobs = new_jobs here; keeps = λ e. is_blank }; jobs = new_jobs here }
 
-  pub new_is : IsNewHost code placement cores mail new_host
+  new_is : IsNewHost code placement cores mail new_host
   new_is = record {
     code_is = refl;
     places = refl;
@@ -215,3 +219,8 @@ module _ (code : CodeParts) (valid : IsValidCode (plain_code code)) (placement :
     fresh = λ whole. new_none (whole_here whole);
     whole = new_whole;
   }
+
+  pub is_new : (places own : List ℕ) → placement.places ≡ places → cores ≡ own → IsHosted (host_with places own) × IsNewHost code placement cores mail (host_with places own)
+  is_new places own p c =
+      subst (λ l. IsHosted (host_with places l) × IsNewHost code placement cores mail (host_with places l)) c
+      (subst (λ l. IsHosted (host_with l cores) × IsNewHost code placement cores mail (host_with l cores)) p (new_hosted, new_is))

@@ -2,7 +2,7 @@
 use Rattle.std.proofs.Common.{◌≡◌, ℕ, zero, suc, ◌+◌, ◌<◌, true, false, cond, Option, Some, None, List, [], ◌∷◌, ◌++◌, length, map, refl, sym, ap, ◌∙◌, subst, append-nil, arith}
 use Rattle.std.specs.Prelude.{slice_get, slice_set, drop}
 use Rattle.std.proofs.lemmas.List.{length-set, length-append}
-use Rattle.forec_kernel.specs.Packets.{PlainPacket, IsPaused}
+use Rattle.forec_kernel.specs.Packets.{PlainPacket}
 use Rattle.forec_kernel.specs.Packed.{HasRoom, AreJobs, PacketAnswers}
 use Rattle.forec_kernel.specs.Engine.{Job, Reply, Written, Exchange, Answered, Answers, jobs_to, pair_up}
 use Rattle.thread_code.specs.declared.instruction.CodeParts.{CodeParts}
@@ -10,11 +10,10 @@ use Rattle.thread_code.specs.Plain.{PlainCode, plain_code}
 use Rattle.thread_code.specs.Valid.{of_shape}
 use Rattle.thread_code.specs.Alone.{CodeAlone}
 use Rattle.combine_tree.specs.declared.packet.Packet.{Packet}
-use Rattle.combine_tree.specs.declared.packet.PacketKind.{PacketKind}
 use Rattle.combine_tree.specs.declared.packet.PacketKind.TheVariants as kind
-use Rattle.combine_tree.specs.Plain.{plain_kind, plain_packet}
+use Rattle.combine_tree.specs.Plain.{plain_packet}
 use Rattle.core_machine.specs.declared.thread.Thread.{Thread}
-use Rattle.core_machine.specs.Threads.{Loaded, StandsFor, HasSettled, HasReply, HasPaused, RepliesToLast}
+use Rattle.core_machine.specs.Threads.{Loaded, StandsFor, HasSettled, HasReply, RepliesToLast}
 use Rattle.core_machine.specs.Forks.{jobs_at}
 use Rattle.core_machine.specs.Replies.{RepliesByKind}
 use Rattle.copy_slots.specs.declared.view.Taker.{Taker}
@@ -31,9 +30,10 @@ use Rattle.core_seats.specs.Done.{InJob, through}
 use Rattle.core_seats.specs.Keeping.{SchedulerState, code_in, IsSeated, LastReply, last, AtFork}
 use Rattle.core_seats.specs.Waiting.{jobs_out, HasTold, IsForked, IsGathering, IsWorking, IsWaiting, IsAtRest, RestsOrWaits, rests}
 use Rattle.core_seats.specs.Serving.{ChangesBranches, Touches}
-use Rattle.core_seats.proofs.Mails.{children_count, child_here, child_else, parent_on_child, is_child, extends_same, extends_one}
+use Rattle.copy_slots.proofs.PortLemmas.{child_here, child_else, parent_on_child}
+use Rattle.core_seats.proofs.Mails.{children_count, is_child, extends_same, extends_one}
 use Rattle.tick_jobs.proofs.Lists.{by_equal, get_set, get_set_else, length_then}
-use Rattle.core_seats.proofs.KeepingLemmas.{done_keeps}
+use Rattle.core_seats.proofs.KeepingLemmas.{done_keeps, paused_by}
 use Rattle.tick_jobs.proofs.Pairs.{same_test, no_pairs}
 use Rattle.tick_jobs.proofs.Logs.{Ends, job_ends}
 use Rattle.core_seats.proofs.AfterFork.{fork_at, is_forked, posts_answered}
@@ -209,15 +209,6 @@ module _ (s0 : SchedulerState) (m : ℕ) (inside : m < length s0.mail.ends) (sea
     looked_now : looked_by_child at_end.mail m ≡ looked_by_child s0.mail m
     looked_now = ap words_of_child child_now ∙ sym (ap words_of_child taker.1)
 
-    paused : (k : PacketKind) → RepliesByKind h k → plain_kind k ≡ IsPaused → HasPaused h
-    paused kind.Paused r e = r
-    paused kind.Blank r e = absurd r
-    paused kind.Start r e = absurd r
-    paused kind.Wake r e = absurd r
-    paused kind.Ended r e = cc
-    paused (kind.Trapped place trap) r e = cc
-    paused kind.Over r e = cc
-
     it_rests : IsAtRest at_end m
     it_rests = record {
       idle = record {
@@ -229,7 +220,7 @@ module _ (s0 : SchedulerState) (m : ℕ) (inside : m < length s0.mail.ends) (sea
         jobs = w.work.jobs ++ w.work.job ∷ [];
         are = subst (λ l. AreJobs l (w.work.jobs ++ w.work.job ∷ [])) (sym taken_now) are_m;
         done = done_keeps c h s0.mail at_end.mail (w.work.jobs ++ w.work.job ∷ []) (λ j mine. parent_on_child s0.mail.ends m j (taker_answered q)) ends.done;
-        last = subst (λ l. LastReply c m l h) (sym taken_now) (last q its_answers (paused p.kind kind_is));
+        last = subst (λ l. LastReply c m l h) (sym taken_now) (last q its_answers (paused_by h p.kind kind_is));
         even = ap length answered_now ∙ length_then (answered s0.mail m) q ∙ even_m ∙ ap length (sym taken_now);
       };
       has = λ j lt is.

@@ -25,7 +25,8 @@ use Rattle.tick_jobs.specs.Writing.{told}
 use Rattle.core_seats.specs.Keeping.{SchedulerState, code_in, KeepsPort, IsSeated}
 use Rattle.core_seats.specs.Waiting.{IsWorking, IsAtRest, RestsOrWaits, rests}
 use Rattle.core_seats.specs.Serving.{Touches, OnlyLooks, HasMissed}
-use Rattle.core_seats.proofs.Mails.{alike_then, children_count, child_here, child_else, parent_on_child, is_child, extends_same, extends_one, extends_then}
+use Rattle.copy_slots.proofs.PortLemmas.{child_here, child_else, parent_on_child}
+use Rattle.core_seats.proofs.Mails.{alike_then, children_count, is_child, extends_same, extends_one, extends_then}
 use Rattle.tick_jobs.proofs.Lists.{by_equal, some_once, length_then}
 use Rattle.core_seats.proofs.KeepingLemmas.{idle_keeps, grown_then, seated_by}
 use Rattle.core_seats.proofs.RunChildren.{jobs_more}

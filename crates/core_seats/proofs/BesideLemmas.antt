@@ -1,8 +1,7 @@
 -- Thread 0 is at work while other threads are served.
-use Rattle.std.proofs.Common.{◌≡◌, ℕ, suc, ◌<◌, Option, Some, List, [], ◌∷◌, ◌++◌, map, length, refl, sym, ap, ◌∙◌, subst, arith}
+use Rattle.std.proofs.Common.{◌≡◌, ℕ, suc, ◌<◌, Option, Some, List, [], ◌∷◌, ◌++◌, length, refl, sym, ap, ◌∙◌, subst, arith}
 use Rattle.std.specs.Prelude.{slice_get, slice_set, slice_index_or}
 use Rattle.std.proofs.lemmas.List.{length-set}
-use Rattle.forec_kernel.specs.Packets.{PlainPacket}
 use Rattle.forec_kernel.specs.Packed.{IsJob}
 use Rattle.forec_kernel.specs.Engine.{Job, Reply, Exchange, Answered}
 use Rattle.thread_code.specs.declared.instruction.CodeParts.{CodeParts}
@@ -10,10 +9,8 @@ use Rattle.thread_code.specs.Plain.{plain_code}
 use Rattle.combine_tree.specs.declared.packet.Packet.{Packet}
 use Rattle.combine_tree.specs.Plain.{plain_packet}
 use Rattle.core_machine.specs.declared.thread.Thread.{Thread}
-use Rattle.core_machine.specs.Threads.{Loaded, StandsFor, HasSettled, HasReply, RepliesToLast}
-use Rattle.core_machine.specs.Forks.{jobs_at, with_replies}
-use Rattle.copy_slots.specs.declared.view.Taker.{Taker}
-use Rattle.copy_slots.specs.Ports.{child_at, IsChild}
+use Rattle.core_machine.specs.Threads.{Loaded, StandsFor, HasReply, RepliesToLast}
+use Rattle.core_machine.specs.Forks.{with_replies}
 use Rattle.core_seats.specs.declared.seat.Seat.{Seat}
 use Rattle.core_seats.specs.Posts.{Mail}
 use Rattle.tick_jobs.specs.Branches.{IsBranchOf}
@@ -24,70 +21,22 @@ use Rattle.core_seats.specs.Ending.{HasReplied}
 use Rattle.core_seats.specs.Resting.{RootRests}
 use Rattle.core_seats.specs.Keeping.{SchedulerState, code_in, IsSeated, Sits, HasPacket, HaveHeard, AtFork}
 use Rattle.core_seats.specs.Waiting.{HasTold, IsForked, IsGathering, HasReplies, HasChild, RestsOrWaits, IsVacant, CanDescend}
-use Rattle.core_seats.specs.Serving.{ChangesBranches, KeepsServing}
-use Rattle.core_seats.specs.OnJob.{IsOnJob, KeepsOthers}
-use Rattle.core_seats.specs.Rounds.{CanServe, IsSameRound}
-use Rattle.core_seats.specs.declared.round.Round.{Round}
-use Rattle.core_seats.proofs.Mails.{state, alike_then, extends_same}
+use Rattle.core_seats.specs.Serving.{ChangesBranches, KeepsOthers, KeepsServing}
+use Rattle.core_seats.specs.OnJob.{IsOnJob}
+use Rattle.core_seats.proofs.Mails.{state, alike_same}
+use Rattle.tick_jobs.proofs.Forks.{ComesToFork}
 use Rattle.tick_jobs.proofs.Lists.{get_set_else}
-use Rattle.core_seats.proofs.KeepingLemmas.{grown_same, grown_then, packet_keeps, seated_by}
+use Rattle.core_seats.proofs.KeepingLemmas.{packet_keeps, seated_by}
 use Rattle.core_seats.proofs.AfterFork.{fork_at, is_forked}
 use Rattle.core_seats.proofs.OneMoreExchange.{changed_is, told_posts, posts_told}
 use Rattle.core_seats.proofs.WaitingLemmas.{gathering_keeps, between_keeps, between_moves}
 use Rattle.core_seats.proofs.Seats.{vacant_by, can_keep}
+use Rattle.core_seats.proofs.ServingLemmas.{child_keeps, others_seated}
 use Rattle.core_seats.proofs.GatherReplies.{all_heard}
 use Rattle.core_seats.proofs.Resuming.{job_goes_on}
 use Rattle.core_seats.proofs.Rooted.{raw1_is, number_1, in_job1, root_replies, root_rests}
 
 -- ---- what is kept of the others
-
-pub others_same : (a : SchedulerState) → KeepsOthers a a
-others_same a = record {
-  code = refl;
-  places = refl;
-  alike = record { work = refl; blanks = refl; tells = refl; root = refl; count = refl; stops = extends_same _ _ refl };
-  grown = grown_same a.mail;
-  seat = refl;
-  seat_count = refl;
-  hand_count = refl;
-  here = λ j h. h;
-  was_here = λ j h. h;
-  between = λ j h. h;
-  vacant = λ j v. v;
-}
-
-pub others_then : (a b c : SchedulerState) → KeepsOthers a b → KeepsOthers b c → KeepsOthers a c
-others_then a b c h g = record {
-  code = g.code ∙ h.code;
-  places = g.places ∙ h.places;
-  alike = alike_then a.mail b.mail c.mail h.alike g.alike;
-  grown = grown_then a.mail b.mail c.mail h.grown g.grown;
-  seat = g.seat ∙ h.seat;
-  seat_count = g.seat_count ∙ h.seat_count;
-  hand_count = g.hand_count ∙ h.hand_count;
-  here = λ j x. g.here j (h.here j x);
-  was_here = λ j x. h.was_here j (g.was_here j x);
-  between = λ j x. g.between j (h.between j x);
-  vacant = λ j v. g.vacant j (h.vacant j v);
-}
-
-pub serving_others : (a b : SchedulerState) → KeepsServing a b → KeepsOthers a b
-serving_others a b k = record {
-  code = k.code;
-  places = k.places;
-  alike = k.alike;
-  grown = k.grown;
-  seat = k.seat;
-  seat_count = k.seat_count;
-  hand_count = k.hand_count;
-  here = k.here;
-  was_here = k.was_here;
-  between = k.between;
-  vacant = k.vacant;
-}
-
-child_same : (a b : Mail) (j : ℕ) → child_at b.ends j ≡ child_at a.ends j → HasChild a j → HasChild b j
-child_same a b j e h = (h.0, subst (λ (o : Option (Taker PlainPacket)). IsChild o h.0) (sym e) h.1)
 
 pub branches_others : (a b : SchedulerState) (t : ℕ) → t ≡ 0 → ChangesBranches t a b → KeepsOthers a b
 branches_others a b t root m = record {
@@ -98,23 +47,10 @@ branches_others a b t root m = record {
   seat = ap (λ l. slice_get l 0) m.seats;
   seat_count = ap length m.seats;
   hand_count = m.hand_count;
-  here = λ j h. child_same a.mail b.mail j (m.children j) h;
-  was_here = λ j h. child_same b.mail a.mail j (sym (m.children j)) h;
+  here = λ j h. child_keeps a.mail b.mail j (m.children j) h;
+  was_here = λ j h. child_keeps b.mail a.mail j (sym (m.children j)) h;
   between = λ j h. between_moves a b t m j (λ e. omega (arith, e, root)) h;
   vacant = λ j v. vacant_by a b (suc j) (ap (λ l. slice_get l (suc j)) m.seats) v;
-}
-
-pub others_seated : (a b : SchedulerState) → KeepsOthers a b → IsSeated a → IsSeated b
-others_seated a b k seated = seated_by a b k.code k.places k.alike k.seat_count k.hand_count seated
-
-pub round_others : (s0 s1 : SchedulerState) (a b : Round) → KeepsOthers s0 s1 → IsSameRound a b → CanServe s0 a → CanServe s1 b
-round_others s0 s1 a b keeps same can = record {
-  next = same.next;
-  each = λ i k at.
-      let e = can.each i k (ap (λ l. slice_get l i) (sym same.own) ∙ at) in
-      let lt = e.0 in
-      let count = keeps.alike.count in (omega (arith, lt, count), keeps.between k e.1);
-  all = can_keep s0 s1 0 keeps.alike.count (λ j le w. keeps.between j w) (λ j le v. keeps.vacant j v) can.all;
 }
 
 pub serving_gathering : (a b : SchedulerState) (h : Thread) → h.number ≡ 0 → KeepsServing a b → (pairs : List Answered) → IsGathering a h pairs → IsGathering b h pairs
@@ -137,10 +73,9 @@ on_runs s h h1 jobs job number stands on = on_by s h1 h.number jobs job number o
 pub on_job : (s : SchedulerState) (h : Thread) (jobs : List Job) (job : Job) → IsOnJob s h jobs job → InJob (code_in s) h s.mail jobs job
 on_job s h jobs job on = record { log = on.log; stands = on.stands; posts = told_posts s h.number (told (code_in s) h.number jobs job on.log) on.told }
 
-module _ (a : SchedulerState) (seated : IsSeated a) (h h1 : Thread) (loaded1 : Loaded (code_in a) h1) (number1 : h1.number ≡ h.number) (stands1 : (xs : List Exchange) → StandsFor (code_in a) h xs → StandsFor (code_in a) h1 xs) (settled : HasSettled h1 0)
-    (numbers : h1.branches.numbers ≡ map (λ w. w.branch) (jobs_at (code_in a) h1)) (jobs : List Job) (job : Job) (before : IsOnJob a h jobs job) where
+module _ (a : SchedulerState) (seated : IsSeated a) (h h1 : Thread) (ran : ComesToFork (code_in a) h h1) (jobs : List Job) (job : Job) (before : IsOnJob a h jobs job) where
   pub on_now : IsOnJob a h1 jobs job
-  on_now = on_runs a h h1 jobs job number1 stands1 before
+  on_now = on_runs a h h1 jobs job ran.number ran.stands before
 
   abbrev pub pairs_now : List Answered
   pairs_now = told (code_in a) h1.number jobs job on_now.log
@@ -149,10 +84,10 @@ module _ (a : SchedulerState) (seated : IsSeated a) (h h1 : Thread) (loaded1 : L
   told_now = on_now.told
 
   pub fork_now : AtFork a h1
-  fork_now = fork_at a seated.valid h1 loaded1 settled numbers jobs job (on_job a h1 jobs job on_now)
+  fork_now = fork_at a seated.valid h1 ran.loaded ran.settled ran.branches jobs job (on_job a h1 jobs job on_now)
 
   pub forked_now : IsForked (code_in a) h1
-  forked_now = is_forked (code_in a) seated.valid h1 loaded1 settled numbers a.mail jobs job (on_job a h1 jobs job on_now)
+  forked_now = is_forked (code_in a) seated.valid h1 ran.loaded ran.settled ran.branches a.mail jobs job (on_job a h1 jobs job on_now)
 
   -- its branches were served, and have replied
   module _ (d : SchedulerState) (keeps : KeepsOthers a d) (all : (pairs : List Answered) → HasTold a h1.number pairs [] → HasReplies d h1 pairs) where
@@ -172,7 +107,7 @@ module _ (a : SchedulerState) (seated : IsSeated a) (h h1 : Thread) (loaded1 : L
       on_next =
           subst
           (λ (x : CodeParts). (log : Log (plain_code x) h1.number jobs job) → StandsFor (plain_code x) h1 (heard (plain_code x) h1.number jobs job log) → HasReplies d h1 (told (plain_code x) h1.number jobs job log) → Loaded (plain_code x) h1 → IsOnJob d h3 jobs job)
-          keeps.code (λ log stands replies loaded. job_goes_on d seated_d h1 loaded jobs job log stands replies h2 h3 number2 number3 branches2 settles joins) on_now.log on_now.stands replies_now loaded1
+          keeps.code (λ log stands replies loaded. job_goes_on d seated_d h1 loaded jobs job log stands replies h2 h3 number2 number3 branches2 settles joins) on_now.log on_now.stands replies_now ran.loaded
 
 -- ---- thread 0 out of its seat
 
@@ -183,7 +118,7 @@ module _ (s : SchedulerState) (y : Seat) where
 
   pub seat_between : (k : ℕ) → RestsOrWaits s k → RestsOrWaits reseated k
   seat_between k b =
-      between_keeps s reseated refl refl (record { work = refl; blanks = refl; tells = refl; root = refl; count = refl; stops = extends_same _ _ refl }) k (get_set_else s.seats 0 (suc k) y (λ e. omega (arith, e))) refl (λ i mine. refl)
+      between_keeps s reseated refl refl (alike_same s.mail) k (get_set_else s.seats 0 (suc k) y (λ e. omega (arith, e))) refl (λ i mine. refl)
       (λ i mine. refl) b
 
   pub seat_vacant : (k : ℕ) → IsVacant s (suc k) → IsVacant reseated (suc k)
@@ -194,7 +129,7 @@ module _ (s : SchedulerState) (y : Seat) where
 
   pub seat_seated : IsSeated s → IsSeated reseated
   seat_seated seated =
-      seated_by s reseated refl refl (record { work = refl; blanks = refl; tells = refl; root = refl; count = refl; stops = extends_same _ _ refl }) (length-set s.seats 0 y) refl seated
+      seated_by s reseated refl refl (alike_same s.mail) (length-set s.seats 0 y) refl seated
 
 -- where each packet of its branches is its own, it is on the job
 pub job_on : (s : SchedulerState) (h : Thread) → h.number ≡ 0 → ((k : ℕ) → k < length s.mail.ends → IsBranchOf (code_in s).shape 0 k → HasPacket s k) → (jobs : List Job) (job : Job) → InJob (code_in s) h s.mail jobs job → IsOnJob s h jobs job
@@ -207,10 +142,31 @@ job_on s h root packets jobs job i = record {
 pub packets_after : (s : SchedulerState) (h : Thread) → h.number ≡ 0 → (jobs : List Job) (job : Job) → IsOnJob s h jobs job → (k : ℕ) → k < length s.mail.ends → IsBranchOf (code_in s).shape 0 k → HasPacket s k
 packets_after s h root jobs job on k lt mine = on.told.has k lt (subst (λ t. IsBranchOf (code_in s).shape t k) (sym root) mine) (λ o. o)
 
--- a tick's job, from thread 0's seat and back into it
-module _ (s0 : SchedulerState) (seated : IsSeated s0) (root : RootRests s0) (packets : (k : ℕ) → k < length s0.mail.ends → IsBranchOf (code_in s0).shape 0 k → HasPacket s0 k) (code : CodeParts) (places : List ℕ) (mail : Mail) (seats : List Seat) (hands : List (Option Packet))
-    (view : state code places mail seats hands ≡ s0) (x : Seat) (read : x ≡ slice_index_or seats 0 x) (found : Option Thread) (value : found ≡ x.thread) (h : Thread) (is : found ≡ Some h) (y : Seat) (p : Packet) (h1 : Thread) (number : h1.number ≡ h.number)
-    (stands : (xs : List Exchange) (job : Job) → IsJob (plain_packet p) job → StandsFor (plain_code code) h xs → StandsFor (plain_code code) h1 (xs ++ record { job = job; replies = [] } ∷ [])) where
+-- thread 0 is taken out of its seat for a tick's job
+pub record TakesUp (s0 : SchedulerState) : Type 0 where
+  pub root : RootRests s0
+  pub packets : (k : ℕ) → k < length s0.mail.ends → IsBranchOf (code_in s0).shape 0 k → HasPacket s0 k
+  pub code : CodeParts
+  pub places : List ℕ
+  pub mail : Mail
+  pub seats : List Seat
+  pub hands : List (Option Packet)
+  pub view : state code places mail seats hands ≡ s0
+  pub x : Seat
+  pub read : x ≡ slice_index_or seats 0 x
+  pub found : Option Thread
+  pub value : found ≡ x.thread
+  pub h : Thread
+  pub is : found ≡ Some h
+  pub y : Seat
+  pub p : Packet
+  pub h1 : Thread
+  pub number : h1.number ≡ h.number
+  pub stands : (xs : List Exchange) (job : Job) → IsJob (plain_packet p) job → StandsFor (plain_code code) h xs → StandsFor (plain_code code) h1 (xs ++ record { job = job; replies = [] } ∷ [])
+
+module _ (s0 : SchedulerState) (seated : IsSeated s0) (taken : TakesUp s0) where
+  open taken use {root, packets, code, places, mail, seats, hands, view, x, read, found, value, h, is, y, p, h1, number, stands}
+
   abbrev pub up : SchedulerState
   up = state code places mail (slice_set seats 0 y) hands
 
@@ -238,8 +194,29 @@ module _ (s0 : SchedulerState) (seated : IsSeated s0) (root : RootRests s0) (pac
   pub up_begun : (job : Job) → IsJob (plain_packet p) job → IsOnJob up h1 root.jobs job
   up_begun job isjob = on_up root.jobs job (in_job1 s0 seated.valid root code places mail seats hands view x read found value h is y p h1 number stands root.thread root.sits root.jobs job root.done isjob).0
 
-  module _ (s3 : SchedulerState) (h2 : Thread) (root2 : h2.number ≡ 0) (loaded2 : Loaded (code_in up) h2) (replied : HasReply h2) (keeps : KeepsOthers up s3) (done3 : (jobs : List Job) (job : Job) → IsOnJob up h1 jobs job → IsOnJob s3 h2 jobs job) (code2 : CodeParts) (places2 : List ℕ) (mail2 : Mail)
-      (seats2 : List Seat) (hands2 : List (Option Packet)) (view2 : state code2 places2 mail2 seats2 hands2 ≡ s3) (p' : Packet) (gives : (xs : List Exchange) → StandsFor (plain_code code2) h2 xs → RepliesToLast (plain_code code2) h2.number xs (plain_packet p')) (z : Seat) (sits : z.thread ≡ Some h2) where
+  -- it has done the job, and goes back
+  pub record ComesDown : Type 0 where
+    pub s3 : SchedulerState
+    pub h2 : Thread
+    pub root2 : h2.number ≡ 0
+    pub loaded2 : Loaded (code_in up) h2
+    pub replied : HasReply h2
+    pub keeps : KeepsOthers up s3
+    pub done3 : (jobs : List Job) (job : Job) → IsOnJob up h1 jobs job → IsOnJob s3 h2 jobs job
+    pub code2 : CodeParts
+    pub places2 : List ℕ
+    pub mail2 : Mail
+    pub seats2 : List Seat
+    pub hands2 : List (Option Packet)
+    pub view2 : state code2 places2 mail2 seats2 hands2 ≡ s3
+    pub p' : Packet
+    pub gives : (xs : List Exchange) → StandsFor (plain_code code2) h2 xs → RepliesToLast (plain_code code2) h2.number xs (plain_packet p')
+    pub z : Seat
+    pub sits : z.thread ≡ Some h2
+
+  module _ (done : ComesDown) where
+    open done use {s3, h2, root2, loaded2, replied, keeps, done3, code2, places2, mail2, seats2, hands2, view2, p', gives, z, sits}
+
     abbrev pub down : SchedulerState
     down = state code2 places2 mail2 (slice_set seats2 0 z) hands2
 

@@ -17,8 +17,7 @@ use Rattle.core_seats.specs.Calling.{ServesFork, HasSentMore, HasCalled, IsCalli
 use Rattle.core_seats.specs.Descending.{Descends}
 use Rattle.core_seats.specs.Keeping.{SchedulerState, code_in, IsSeated, HasPacket, LacksPacket, IsJobFor, AtFork, CanSend, HasHeard}
 use Rattle.core_seats.specs.Moving.{ChangesPacket, HasSent, HasGot, HasLooked}
-use Rattle.core_seats.specs.OnJob.{KeepsOthers}
-use Rattle.core_seats.specs.Serving.{ChangesBranches}
+use Rattle.core_seats.specs.Serving.{ChangesBranches, KeepsOthers}
 use Rattle.core_seats.specs.Waiting.{IsOut, HasTold, IsForked, IsGathering, CanDescend}
 use Rattle.core_seats.proofs.Mails.{extends_one, extends_same, extends_then}
 use Rattle.tick_jobs.proofs.Lists.{some_once, get_then, length_then}
@@ -26,12 +25,11 @@ use Rattle.core_seats.proofs.KeepingLemmas.{leaves_same, leaves_then, leaves_les
 use Rattle.tick_jobs.proofs.Branching.{branch_above, parent_once}
 use Rattle.core_seats.proofs.LoadLemmas.{take_next, take_end}
 use Rattle.tick_jobs.proofs.Pairs.{pairs_more, no_pairs}
-use Rattle.core_seats.proofs.ChildrenRunLemmas.{may_keeps}
 use Rattle.core_seats.proofs.OneMoreExchange.{changed, changed_is, lacks_keeps, told_one, told_still, told_back, answers}
 use Rattle.core_seats.proofs.WaitingLemmas.{told_keeps, heard_keeps, between_moves}
 use Rattle.core_seats.proofs.Seats.{vacant_by, can_keep, can_above}
 use Rattle.core_seats.proofs.SendJobs.{branch_moves, branches_seated}
-use Rattle.core_seats.proofs.NextJob.{job, is_suc, mine_b, inside_m, low, can_send, not_yet, apart, apart_before}
+use Rattle.core_seats.proofs.NextJob.{job, is_suc, mine_b, inside_m, low, can_send, not_yet, apart, apart_before, job_keeps}
 use Rattle.core_seats.proofs.ServingLemmas.{child_keeps}
 use Rattle.core_seats.proofs.DescendingLemmas.{descends_less, descends_seated}
 
@@ -423,15 +421,8 @@ module _ (a b : SchedulerState) (h : Thread) (k number : ℕ) (seated : IsSeated
   rest_next : (c : SchedulerState) → ((j : ℕ) → IsBranchOf (code_in b).shape h.number j → j ≢ m → sent c.mail j ≡ sent b.mail j) → (i : ℕ) (w : Written) → k + 1 ≤ i → slice_get (jobs_at (code_in a) h) i ≡ Some w → IsJobFor (code_in a) c.mail h.number w
   rest_next c same i w le at' =
       let it = done.rest i w (omega (arith, le)) at' in
-      record {
-        mailbox = it.mailbox;
-        branch = it.branch;
-        mine = it.mine;
-        inside = it.inside;
-        above = it.above;
-        may = may_keeps (code_in a) b.mail c.mail it.mailbox w.job
-            (same it.mailbox (subst (λ x. IsBranchOf (plain_code x).shape h.number it.mailbox) (sym code) it.mine) (apart a b code seated_b h k number fork done.rest at i it.mailbox w (omega (arith, le)) at' it.branch)) it.may;
-      }
+      job_keeps (code_in a) b.mail c.mail h.number w it
+      (same it.mailbox (subst (λ x. IsBranchOf (plain_code x).shape h.number it.mailbox) (sym code) it.mine) (apart a b code seated_b h k number fork done.rest at i it.mailbox w (omega (arith, le)) at' it.branch))
 
   module _ (s1 : SchedulerState) (moves : ChangesPacket m b s1) (lacks : LacksPacket s1 m) (sent_now : (w : Written) → slice_get (jobs_at (code_in b) h) k ≡ Some w → HasSent b s1 m w.job) where
     path1 : changed b s1.mail s1.seats s1.hands ≡ s1

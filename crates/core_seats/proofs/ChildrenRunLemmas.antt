@@ -6,22 +6,21 @@ use Rattle.std.proofs.lemmas.Option.{slice_get_within}
 use Rattle.forec_kernel.specs.Packed.{HasRoom}
 use Rattle.thread_code.specs.Valid.{of_shape}
 use Rattle.combine_tree.specs.Plain.{plain_packet}
-use Rattle.forec_kernel.specs.Engine.{Job, Start, Wake, Reply, Written, pair_up}
-use Rattle.thread_code.specs.Plain.{PlainCode, plain_code}
+use Rattle.forec_kernel.specs.Engine.{Reply, Written, pair_up}
+use Rattle.thread_code.specs.Plain.{plain_code}
 use Rattle.core_machine.specs.declared.thread.Thread.{Thread}
-use Rattle.core_machine.specs.Threads.{Loaded}
 use Rattle.core_machine.specs.Forks.{jobs_at}
-use Rattle.copy_slots.specs.Ports.{parent_at, sent_by, sent}
-use Rattle.core_seats.specs.Asking.{ArePaused}
-use Rattle.core_seats.specs.Posts.{Mail}
+use Rattle.copy_slots.specs.Ports.{parent_at, sent_by}
 use Rattle.tick_jobs.specs.Branches.{IsBranchOf}
 use Rattle.core_seats.specs.Done.{Posts}
-use Rattle.core_seats.specs.Keeping.{SchedulerState, code_in, KeepsBelow, IsSeated, IsFitted, HasPacket, LacksPacket, Quiet, QuietAbove, IsCalled, IsBack, MayAsk, IsJobFor, AtFork, CanSend, HasHeard, HaveHeard}
+use Rattle.core_seats.specs.Keeping.{SchedulerState, code_in, KeepsBelow, IsSeated, IsFitted, HasPacket, LacksPacket, Quiet, QuietAbove, IsCalled, IsBack, AtFork, CanSend, HasHeard, HaveHeard}
 use Rattle.core_seats.specs.Moving.{ChangesPacket, HasSent, HasGot}
 use Rattle.core_seats.specs.ChildrenRun.{Consulted}
 use Rattle.tick_jobs.proofs.Lists.{some_once, at_map}
 use Rattle.core_seats.proofs.KeepingLemmas.{leaves_same, leaves_then, seated_keeps, moved_seated, fitted_keeps, moved_quiet}
 use Rattle.tick_jobs.proofs.Branching.{parent_once}
+use Rattle.core_seats.proofs.NextJob.{job_keeps}
+use Rattle.core_seats.proofs.NextJob as next
 use Rattle.core_seats.proofs.Send.{called_now, quiet_now}
 use Rattle.core_seats.proofs.RunChildren.{all_leaves, quiet_all, parent_else, hand_else, its_reply, heard_now, posts_now}
 use Rattle.tick_jobs.proofs.Pairs.{pairs_more, no_pairs}
@@ -42,65 +41,34 @@ consulted_none a h fork above = record {
     none_there zero r e = cc
     none_there (suc i) r e = cc
 
-pub may_keeps : (c : PlainCode) (m m' : Mail) (k : ℕ) (j : Job) → sent m' k ≡ sent m k → MayAsk c m k j → MayAsk c m' k j
-may_keeps c m m' k (Start args values a) e h = tt
-may_keeps c m m' k (Wake values a) e h = subst (ArePaused c k) (sym e) h
-
 -- the next branch
 module _ (a b : SchedulerState) (h : Thread) (k number : ℕ) (fitted : IsFitted a) (fork : AtFork a h) (done : Consulted a b h k) (at : slice_get h.branches.numbers k ≡ Some number) where
-  c : PlainCode
-  c = code_in a
+  pub fitted_b : IsFitted b
+  fitted_b = fitted_keeps h.number h.number a b done.leaves fitted
 
   job : (w : Written) × (slice_get (jobs_at (code_in a) h) k ≡ Some w) × (w.branch ≡ number)
-  job = at_map (λ w. w.branch) (jobs_at (code_in a) h) k number (ap (λ l. slice_get l k) (sym fork.numbers) ∙ at)
-
-  for_it : IsJobFor (code_in a) b.mail h.number job.0
-  for_it = done.rest k job.0 (omega arith) job.1
+  job = next.job a b done.leaves.code fitted_b.seated h k number fork done.rest at
 
   abbrev pub m : ℕ
   m = number - 1
 
-  number_is : number ≡ suc for_it.mailbox
-  number_is = sym job.2 ∙ for_it.branch
-
-  m_is : m ≡ for_it.mailbox
-  m_is = let e = number_is in omega (arith, e)
-
   pub some_number : 1 ≤ number
-  some_number = let e = number_is in omega (arith, e)
+  some_number = next.some_number a b done.leaves.code fitted_b.seated h k number fork done.rest at
 
-  pub is_suc : number ≡ suc m
-  is_suc = let e = some_number in omega (arith, e)
-
-  pub fitted_b : IsFitted b
-  fitted_b = fitted_keeps h.number h.number a b done.leaves fitted
-
-  pub mine : IsBranchOf (code_in a).shape h.number m
-  mine = subst (IsBranchOf (code_in a).shape h.number) (sym m_is) for_it.mine
+  is_suc : number ≡ suc m
+  is_suc = next.is_suc a b done.leaves.code fitted_b.seated h k number fork done.rest at
 
   mine_b : IsBranchOf (code_in b).shape h.number m
-  mine_b = subst (λ x. IsBranchOf (plain_code x).shape h.number m) (sym done.leaves.code) mine
+  mine_b = next.mine_b a b done.leaves.code fitted_b.seated h k number fork done.rest at
 
   pub above_m : h.number ≤ m
-  above_m = let e = m_is in let f = for_it.above in omega (arith, e, f)
+  above_m = next.low a b done.leaves.code fitted_b.seated h k number fork done.rest at
 
   pub inside_m : m < length b.mail.ends
-  inside_m =
-      let e = m_is in
-      let f = for_it.inside in
-      let n = fitted_b.seated.mailboxes in
-      let same = ap (λ x. length (plain_code x).threads) done.leaves.code in omega (arith, e, f, n, same)
+  inside_m = next.inside_m a b done.leaves.code fitted_b.seated h k number fork done.rest at
 
   pub can_send : CanSend b h k m
-  can_send = record {
-    loaded = subst (λ x. Loaded (plain_code x) h) (sym done.leaves.code) fork.loaded;
-    settled = fork.settled;
-    number = at ∙ ap Some is_suc;
-    job = job.0;
-    at = subst (λ x. slice_get (jobs_at (plain_code x) h) k ≡ Some job.0) (sym done.leaves.code) job.1;
-    may = subst (λ x. MayAsk (plain_code x) b.mail m job.0.job) (sym done.leaves.code) (subst (λ i. MayAsk (code_in a) b.mail i job.0.job) (sym m_is) for_it.may);
-    inside = inside_m;
-  }
+  can_send = next.can_send a b done.leaves.code fitted_b.seated h k number fork done.rest at
 
   pub quiet_m : Quiet b m
   quiet_m = done.above m above_m inside_m
@@ -214,14 +182,7 @@ module _ (a b : SchedulerState) (h : Thread) (k number : ℕ) (fitted : IsFitted
             subst (Posts (code_in a) h.number s3.mail) named here;
         rest = λ i w le at'.
             let it = done.rest i w (omega (arith, le)) at' in
-            record {
-              mailbox = it.mailbox;
-              branch = it.branch;
-              mine = it.mine;
-              inside = it.inside;
-              above = it.above;
-              may = may_keeps (code_in a) b.mail s3.mail it.mailbox w.job (ap sent_by (else_parent it.mailbox (apart i it.mailbox w (λ e. omega (arith, e, le)) at' it.branch) it.mine)) it.may;
-            };
+            job_keeps (code_in a) b.mail s3.mail h.number w it (ap sent_by (else_parent it.mailbox (apart i it.mailbox w (λ e. omega (arith, e, le)) at' it.branch) it.mine));
       }
 
 pub have_heard : (a b : SchedulerState) (h : Thread) (k : ℕ) (done : Consulted a b h k) → length h.branches.numbers ≤ k → HaveHeard b h.branches.numbers done.replies

@@ -20,9 +20,8 @@ use Rattle.tick_jobs.specs.Branches.{IsBranchOf}
 use Rattle.core_seats.specs.Changes.{Grown, GainsOne, HasProgressed, answered_more}
 use Rattle.core_seats.specs.Descending.{Descends, IsActive, IsRunning, HasFinished, IsHeld, KeepsRound}
 use Rattle.core_seats.specs.Keeping.{SchedulerState, code_in, IsSeated, KeepsBelow, Quiet}
-use Rattle.core_seats.specs.OnJob.{KeepsOthers}
 use Rattle.core_seats.specs.Rounds.{IsSameRound}
-use Rattle.core_seats.specs.Serving.{Touches, OnlyLooks, KeepsServing}
+use Rattle.core_seats.specs.Serving.{Touches, OnlyLooks, KeepsOthers, KeepsServing}
 use Rattle.core_seats.specs.Waiting.{HasChild, IsFor, IsForked, IsGathering, IsAtWork, IsWorking, IsWaiting, RestsOrWaits, IsVacant, CanDescend}
 use Rattle.tick_jobs.proofs.Lists.{by_equal, at_map}
 use Rattle.core_seats.proofs.KeepingLemmas.{leaves_same, leaves_then, leaves_less, seated_keeps}
@@ -133,7 +132,7 @@ branch_at c h k n f at =
 
 -- ---- what is kept of the others
 
-pub descends_others : (a b : SchedulerState) → Descends 0 0 a b → KeepsOthers a b
+descends_others : (a b : SchedulerState) → Descends 0 0 a b → KeepsOthers a b
 descends_others a b d = record {
   code = d.leaves.code;
   places = d.leaves.places;
@@ -149,24 +148,12 @@ descends_others a b d = record {
 }
 
 pub keeps_down : (m : ℕ) (a b : SchedulerState) → m < length a.mail.ends → Descends m m a b → (a.mail.tells ≡ true → Quiet a m → OnlyLooks m a b) → KeepsServing a b
-keeps_down m a b inside d looks =
-    let all = descends_less m 0 0 a b (omega arith) d in
-    record {
-      code = d.leaves.code;
-      places = d.leaves.places;
-      alike = d.leaves.alike;
-      grown = d.leaves.grown;
-      seat = d.leaves.seats 0 (omega arith);
-      seat_count = d.leaves.seat_count;
-      hand_count = d.leaves.hand_count;
-      root = λ j mine. d.leaves.parents j 0 mine (omega arith);
-      hands = λ j mine. d.leaves.hands j 0 mine (omega arith);
-      here = d.here;
-      was_here = d.was_here;
-      between = λ j x. all.between j (omega arith) x;
-      vacant = λ j v. all.vacant j (omega arith) v;
-      quiet = λ tells quiet j lt. quiet_looks m a b (looks tells (quiet m inside)) j (quiet j lt);
-    }
+keeps_down m a b inside d looks = record {
+  others = descends_others a b (descends_less m 0 0 a b (omega arith) d);
+  root = λ j mine. d.leaves.parents j 0 mine (omega arith);
+  hands = λ j mine. d.leaves.hands j 0 mine (omega arith);
+  quiet = λ tells quiet j lt. quiet_looks m a b (looks tells (quiet m inside)) j (quiet j lt);
+}
 
 -- ---- the round
 

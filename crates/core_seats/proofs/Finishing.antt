@@ -1,14 +1,12 @@
 -- A job goes on, fork by fork.
-use Rattle.std.proofs.Common.{◌≡◌, ℕ, zero, suc, ◌+◌, ◌*◌, ◌<◌, ◌≤◌, ◌^◌, List, [], ◌++◌, map, length, refl, sym, ap, ◌∙◌, subst, arith}
+use Rattle.std.proofs.Common.{◌≡◌, ℕ, ◌+◌, ◌*◌, ◌<◌, ◌≤◌, List, [], ◌++◌, length, refl, sym, ap, ◌∙◌, subst, arith}
 use Rattle.forec_kernel.specs.Engine.{Job, allowance_of, Reply, Exchange, Answered, pair_up}
 use Rattle.thread_code.specs.Plain.{PlainCode, plain_code}
 use Rattle.thread_code.specs.Alone.{block_of, machine_units}
 use Rattle.core_machine.specs.declared.thread.Thread.{Thread}
-use Rattle.core_machine.specs.declared.thread.Event.{Event}
-use Rattle.core_machine.specs.declared.thread.Event.TheVariants as event
-use Rattle.core_machine.specs.Threads.{Loaded, StandsFor, HasSettled, HasReply, LeftByEvent}
+use Rattle.core_machine.specs.Threads.{StandsFor}
 use Rattle.core_machine.specs.Forks.{jobs_at, with_replies}
-use Rattle.tick_jobs.proofs.Forks.{times_grow}
+use Rattle.tick_jobs.proofs.Forks.{times_grow, ComesToFork}
 use Rattle.core_seats.specs.Posts.{Mail}
 use Rattle.core_seats.specs.Done.{Posts, InJob, through}
 use Rattle.tick_jobs.specs.Writing.{heard, told}
@@ -29,29 +27,28 @@ job_runs c h h1 m jobs job n number stands i =
 pub allowance_is : (c : PlainCode) (h : Thread) (m : Mail) (jobs : List Job) (job : Job) → InJob c h m jobs job → h.allowance ≡ allowance_of job
 allowance_is c h m jobs job i = allowance_in c h i.log.exchanges job i.log.before (heard c h.number jobs job i.log) i.stands refl
 
-module _ (a b : SchedulerState) (fitted : IsFitted a) (h0 h h1 : Thread) (number : h.number ≡ h0.number) (leaves : KeepsBelow h0.number h0.number a b) (loaded1 : Loaded (code_in b) h1) (number1 : h1.number ≡ h.number)
-    (stands1 : (xs : List Exchange) → StandsFor (code_in b) h xs → StandsFor (code_in b) h1 xs) (settled : HasSettled h1 0) (numbers : h1.branches.numbers ≡ map (λ w. w.branch) (jobs_at (code_in b) h1)) (jobs : List Job) (job : Job) (n : ℕ)
-    (i : Counted (code_in a) h b.mail jobs job n) where
+module _ (a b : SchedulerState) (fitted : IsFitted a) (h0 h h1 : Thread) (number : h.number ≡ h0.number) (leaves : KeepsBelow h0.number h0.number a b) (ran : ComesToFork (code_in b) h h1) (jobs : List Job) (job : Job)
+    (n : ℕ) (i : Counted (code_in a) h b.mail jobs job n) where
   fitted_b : IsFitted b
   fitted_b = fitted_keeps h0.number h0.number a b leaves fitted
 
   now : Counted (code_in b) h1 b.mail jobs job n
-  now = job_runs (code_in b) h h1 b.mail jobs job n number1 stands1 (subst (λ x. Counted (plain_code x) h b.mail jobs job n) (sym leaves.code) i)
+  now = job_runs (code_in b) h h1 b.mail jobs job n ran.number ran.stands (subst (λ x. Counted (plain_code x) h b.mail jobs job n) (sym leaves.code) i)
 
   pub at_fork : AtFork b h1
-  at_fork = fork_at b fitted_b.seated.valid h1 loaded1 settled numbers jobs job now.0
+  at_fork = fork_at b fitted_b.seated.valid h1 ran.loaded ran.settled ran.branches jobs job now.0
 
   pub some_at : 0 < length h1.branches.numbers
-  some_at = some_branches (code_in b) fitted_b.seated.valid h1 loaded1 settled numbers jobs job now.0.log now.0.stands
+  some_at = some_branches (code_in b) fitted_b.seated.valid h1 ran.loaded ran.settled ran.branches jobs job now.0.log now.0.stands
 
   same_steps : length (block_of (code_in b) h1.number).steps ≡ length (block_of (code_in a) h0.number).steps
-  same_steps = ap (λ x. length (block_of (plain_code x) h1.number).steps) leaves.code ∙ ap (λ t. length (block_of (code_in a) t).steps) (number1 ∙ number)
+  same_steps = ap (λ x. length (block_of (plain_code x) h1.number).steps) leaves.code ∙ ap (λ t. length (block_of (code_in a) t).steps) (ran.number ∙ number)
 
   pub bound : allowance_of job ≡ h0.allowance → n + 1 ≤ (length (block_of (code_in a) h0.number).steps + 2) * h0.allowance + (length (block_of (code_in a) h0.number).steps + 1)
   bound allow =
-      let within = units_within (code_in b) fitted_b.seated.valid h1 loaded1 settled numbers jobs job now.0.log now.0.stands in
-      let at = inside (code_in b) fitted_b.seated.valid h1 loaded1 settled numbers jobs job now.0.log now.0.stands in
-      let first = forks_bound (code_in b) fitted_b.seated.valid h1 loaded1 settled numbers jobs job now.0.log now.0.stands in
+      let within = units_within (code_in b) fitted_b.seated.valid h1 ran.loaded ran.settled ran.branches jobs job now.0.log now.0.stands in
+      let at = inside (code_in b) fitted_b.seated.valid h1 ran.loaded ran.settled ran.branches jobs job now.0.log now.0.stands in
+      let first = forks_bound (code_in b) fitted_b.seated.valid h1 ran.loaded ran.settled ran.branches jobs job now.0.log now.0.stands in
       let steps = length (block_of (code_in a) h0.number).steps in
       let named = subst (λ l. length now.0.log.before + 1 ≤ (l + 2) * machine_units at.machine + (l + 1)) same_steps first in
       let more = times_grow (steps + 2) (machine_units at.machine) h0.allowance (omega (arith, within, at.allowance, allow)) in
@@ -69,5 +66,5 @@ module _ (a b : SchedulerState) (fitted : IsFitted a) (h0 h h1 : Thread) (number
         let here = subst (λ x. StandsFor (plain_code x) h1 (with_replies xs [])) (sym leaves'.code) before in
         let after = joins xs (settles xs here) in
         let there = subst (λ x. StandsFor (plain_code x) h3 (with_replies xs rs)) leaves'.code after in
-        let j = in_job_now (code_in b) fitted_b.seated.valid h1 loaded1 settled numbers jobs job now.0.log now.0.stands h3 (number3 ∙ number2) (through (code_in b) b'.mail) rs heard_all.count (posts (told (code_in b) h1.number jobs job l) now.0.posts) there in
+        let j = in_job_now (code_in b) fitted_b.seated.valid h1 ran.loaded ran.settled ran.branches jobs job now.0.log now.0.stands h3 (number3 ∙ number2) (through (code_in b) b'.mail) rs heard_all.count (posts (told (code_in b) h1.number jobs job l) now.0.posts) there in
         subst (λ x. Counted (plain_code x) h3 b'.mail jobs job (n + 1)) leaves.code (j.0, j.1 ∙ ap (λ k. k + 1) now.1)

@@ -18,7 +18,7 @@ use Rattle.core_seats.specs.Keeping.{SchedulerState, code_in, IsSeated, LacksPac
 use Rattle.core_seats.specs.Moving.{ChangesPacket, HasGot, HasLooked}
 use Rattle.core_seats.specs.Waiting.{IsOut, HasTold, IsFor, IsGathering, HasReplies}
 use Rattle.core_seats.specs.Serving.{ChangesBranches}
-use Rattle.core_seats.proofs.Mails.{extends_one, extends_same}
+use Rattle.core_seats.proofs.Mails.{alike_same, extends_one, extends_same}
 use Rattle.tick_jobs.proofs.Lists.{some_once, get_then, length_then, at_map}
 use Rattle.tick_jobs.proofs.Pairs.{pairs_more}
 use Rattle.core_seats.proofs.OneMoreExchange.{changed, changed_is, told_still, told_back, answers}
@@ -147,7 +147,7 @@ same_moves s m = record {
   code = refl;
   places = refl;
   seats = refl;
-  alike = record { work = refl; blanks = refl; tells = refl; root = refl; count = refl; stops = extends_same _ _ refl };
+  alike = alike_same s.mail;
   parents = λ j n. refl;
   looked = extends_same _ _ refl;
   children = λ j. refl;

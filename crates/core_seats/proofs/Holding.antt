@@ -8,7 +8,7 @@ use Rattle.core_seats.specs.Descending.{IsHeld}
 use Rattle.core_seats.specs.Keeping.{SchedulerState, IsSeated}
 use Rattle.core_seats.specs.Waiting.{RestsOrWaits, waits}
 use Rattle.core_seats.specs.Serving.{Touches}
-use Rattle.core_seats.proofs.Mails.{extends_same}
+use Rattle.core_seats.proofs.Mails.{alike_same}
 use Rattle.tick_jobs.proofs.Lists.{get_set, get_set_else}
 use Rattle.core_seats.proofs.KeepingLemmas.{grown_same}
 use Rattle.core_seats.proofs.WaitingLemmas.{waiting_keeps}
@@ -45,7 +45,7 @@ module _ (s : SchedulerState) (seated : IsSeated s) (x : Active) (held : IsHeld 
       subst (Touches x.mailbox s) (sym sitting) (record {
         code = refl;
         places = refl;
-        alike = record { work = refl; blanks = refl; tells = refl; root = refl; count = refl; stops = extends_same _ _ refl };
+        alike = alike_same s.mail;
         grown = grown_same s.mail;
         seats = λ j n. get_set_else s.seats (x.mailbox + 1) j seat (λ e. n (e ∙ one));
         seat_count = length-set s.seats (x.mailbox + 1) seat;

@@ -1,15 +1,18 @@
 -- What stays of threads and mailboxes that a change leaves alone.
 use Rattle.std.proofs.Common.{◌≡◌, ◌≢◌, ℕ, suc, ◌<◌, ◌≤◌, false, Option, Some, List, length, refl, sym, ap, ◌∙◌, subst, arith}
 use Rattle.std.specs.Prelude.{slice_get}
-use Rattle.forec_kernel.specs.Packets.{PlainPacket}
+use Rattle.forec_kernel.specs.Packets.{PlainPacket, IsPaused}
 use Rattle.forec_kernel.specs.Packed.{AreJobs, HasRoom}
 use Rattle.forec_kernel.specs.Engine.{Job, Answered, jobs_to}
 use Rattle.thread_code.specs.Plain.{PlainCode, plain_code}
 use Rattle.thread_code.specs.Valid.{of_shape, IsValidCode}
 use Rattle.combine_tree.specs.declared.packet.Packet.{Packet}
-use Rattle.combine_tree.specs.Plain.{plain_packet}
+use Rattle.combine_tree.specs.declared.packet.PacketKind.{PacketKind}
+use Rattle.combine_tree.specs.declared.packet.PacketKind.TheVariants as kind
+use Rattle.combine_tree.specs.Plain.{plain_kind, plain_packet}
 use Rattle.core_machine.specs.declared.thread.Thread.{Thread}
-use Rattle.core_machine.specs.Threads.{Loaded}
+use Rattle.core_machine.specs.Threads.{Loaded, HasPaused}
+use Rattle.core_machine.specs.Replies.{RepliesByKind}
 use Rattle.copy_slots.specs.declared.view.PacketAt.TheVariants.{Fresh, Held}
 use Rattle.copy_slots.specs.declared.view.Sender.{Sender}
 use Rattle.copy_slots.specs.declared.view.Taker.{Taker}
@@ -21,12 +24,19 @@ use Rattle.core_seats.specs.Changes.{Extends, Grown}
 use Rattle.core_seats.specs.Done.{Posts, HasDone}
 use Rattle.core_seats.specs.Keeping.{SchedulerState, code_in, KeepsPort, KeepsBelow, IsSeated, IsFitted, LastReply, Idle, IsPacketOfParent, blank, reply, HasPacket, Quiet}
 use Rattle.core_seats.specs.Moving.{ChangesPacket}
-use Rattle.core_seats.proofs.Mails.{alike_then, extends_same, extends_then}
+use Rattle.core_seats.proofs.Mails.{alike_same, alike_then, extends_same, extends_then}
 use Rattle.tick_jobs.proofs.Lists.{by_equal}
 
--- ---- the tree of threads
-
 -- ---- what a thread has done
+
+pub paused_by : (h : Thread) (k : PacketKind) → RepliesByKind h k → plain_kind k ≡ IsPaused → HasPaused h
+paused_by h kind.Paused r e = r
+paused_by h kind.Blank r e = absurd r
+paused_by h kind.Start r e = absurd r
+paused_by h kind.Wake r e = absurd r
+paused_by h kind.Ended r e = cc
+paused_by h (kind.Trapped place trap) r e = cc
+paused_by h kind.Over r e = cc
 
 pub posts_keep : (c : PlainCode) (t : ℕ) (m m' : Mail) (pairs : List Answered) → ((j : ℕ) → IsBranchOf c.shape t j → parent_at m'.ends j ≡ parent_at m.ends j) → Posts c t m pairs → Posts c t m' pairs
 posts_keep c t m m' pairs same h = record {
@@ -193,7 +203,7 @@ pub leaves_same : (t u : ℕ) (a : SchedulerState) → KeepsBelow t u a a
 leaves_same t u a = record {
   code = refl;
   places = refl;
-  alike = record { work = refl; blanks = refl; tells = refl; root = refl; count = refl; stops = extends_same _ _ refl };
+  alike = alike_same a.mail;
   grown = grown_same a.mail;
   seats = λ j lt. refl;
   seat_count = refl;

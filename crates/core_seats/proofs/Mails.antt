@@ -14,6 +14,7 @@ use Rattle.copy_slots.specs.declared.view.Sender.{Sender}
 use Rattle.copy_slots.specs.declared.view.Taker.{Taker}
 use Rattle.copy_slots.specs.Mail.{sender_opened}
 use Rattle.copy_slots.specs.Ports.{MailboxEnds, parent_at, child_at, on_sender, on_taker, on_parent, on_child, sent_by, got_by, words_of_parent, looked_by_parent, IsParent, IsChild, ParentIs, sent, got}
+use Rattle.copy_slots.proofs.PortLemmas.{parent_here, parent_else, child_on_parent}
 use Rattle.thread_code.specs.declared.instruction.CodeParts.{CodeParts}
 use Rattle.tick_jobs.proofs.Lists.{some_once, get_set, get_set_else}
 use Rattle.core_seats.specs.declared.seat.Seat.{Seat}
@@ -24,8 +25,6 @@ use Rattle.core_seats.specs.Moving.{ChangesPacket}
 
 abbrev pub state : CodeParts → List ℕ → Mail → List Seat → List (Option Packet) → SchedulerState
 state code places mail seats hands = record { code = code; places = places; mail = mail; seats = seats; hands = hands }
-
--- ---- lists
 
 -- ---- ends
 
@@ -39,44 +38,6 @@ module _ {Q : Type 0} where
   children_count [] k f = refl
   children_count (e ∷ es) zero f = refl
   children_count (e ∷ es) (suc k) f = ap suc (children_count es k f)
-
-  pub parent_here : (es : List (MailboxEnds Q)) (k : ℕ) (f : Sender Q → Sender Q) → parent_at (on_parent es k f) k ≡ on_sender f (parent_at es k)
-  parent_here [] k f = refl
-  parent_here (e ∷ es) zero f = refl
-  parent_here (e ∷ es) (suc k) f = parent_here es k f
-
-  pub parent_else : (es : List (MailboxEnds Q)) (k j : ℕ) (f : Sender Q → Sender Q) → j ≢ k → parent_at (on_parent es k f) j ≡ parent_at es j
-  parent_else [] k j f n = refl
-  parent_else (e ∷ es) zero zero f n = absurd (n refl)
-  parent_else (e ∷ es) zero (suc j) f n = refl
-  parent_else (e ∷ es) (suc k) zero f n = refl
-  parent_else (e ∷ es) (suc k) (suc j) f n = parent_else es k j f (λ i. n (ap suc i))
-
-  pub child_on_parent : (es : List (MailboxEnds Q)) (k j : ℕ) (f : Sender Q → Sender Q) → child_at (on_parent es k f) j ≡ child_at es j
-  child_on_parent [] k j f = refl
-  child_on_parent (e ∷ es) zero zero f = refl
-  child_on_parent (e ∷ es) zero (suc j) f = refl
-  child_on_parent (e ∷ es) (suc k) zero f = refl
-  child_on_parent (e ∷ es) (suc k) (suc j) f = child_on_parent es k j f
-
-  pub child_here : (es : List (MailboxEnds Q)) (k : ℕ) (f : Taker Q → Taker Q) → child_at (on_child es k f) k ≡ on_taker f (child_at es k)
-  child_here [] k f = refl
-  child_here (e ∷ es) zero f = refl
-  child_here (e ∷ es) (suc k) f = child_here es k f
-
-  pub child_else : (es : List (MailboxEnds Q)) (k j : ℕ) (f : Taker Q → Taker Q) → j ≢ k → child_at (on_child es k f) j ≡ child_at es j
-  child_else [] k j f n = refl
-  child_else (e ∷ es) zero zero f n = absurd (n refl)
-  child_else (e ∷ es) zero (suc j) f n = refl
-  child_else (e ∷ es) (suc k) zero f n = refl
-  child_else (e ∷ es) (suc k) (suc j) f n = child_else es k j f (λ i. n (ap suc i))
-
-  pub parent_on_child : (es : List (MailboxEnds Q)) (k j : ℕ) (f : Taker Q → Taker Q) → parent_at (on_child es k f) j ≡ parent_at es j
-  parent_on_child [] k j f = refl
-  parent_on_child (e ∷ es) zero zero f = refl
-  parent_on_child (e ∷ es) zero (suc j) f = refl
-  parent_on_child (e ∷ es) (suc k) zero f = refl
-  parent_on_child (e ∷ es) (suc k) (suc j) f = parent_on_child es k j f
 
   pub is_parent : (o : Option (Sender Q)) (p : PacketAt) → IsParent o p → (x : Sender Q) × (o ≡ Some x) × (x.place ≡ p)
   is_parent None p h = absurd h
@@ -139,6 +100,9 @@ module _ (s : SchedulerState) (k : ℕ) (f : Sender PlainPacket → Sender Plain
     pub got_before : got s.mail k ≡ x.got
     got_before = ap got_by is
 
+pub alike_same : (a : Mail) → KeepsPort a a
+alike_same a = record { work = refl; blanks = refl; tells = refl; root = refl; count = refl; stops = extends_same _ _ refl }
+
 pub alike_then : (a b c : Mail) → KeepsPort a b → KeepsPort b c → KeepsPort a c
 alike_then a b c h g = record { work = g.work ∙ h.work; blanks = g.blanks ∙ h.blanks; tells = g.tells ∙ h.tells; root = g.root ∙ h.root; count = g.count ∙ h.count; stops = extends_then _ _ _ h.stops g.stops }
 
@@ -166,7 +130,7 @@ handed_moves s k = record {
   code = refl;
   places = refl;
   seats = refl;
-  alike = record { work = refl; blanks = refl; tells = refl; root = refl; count = refl; stops = extends_same _ _ refl };
+  alike = alike_same s.mail;
   parents = λ j n. refl;
   looked = extends_same _ _ refl;
   children = λ j. refl;

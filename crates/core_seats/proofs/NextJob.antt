@@ -1,12 +1,15 @@
 -- The next job of a fork, and the mailbox through which it goes.
 use Rattle.std.proofs.Common.{◌≡◌, ◌≢◌, ℕ, zero, suc, ◌-◌, ◌<◌, ◌≤◌, Some, List, [], ◌∷◌, length, take, refl, sym, ap, ◌∙◌, subst, ⊎_elim, arith}
 use Rattle.std.specs.Prelude.{slice_get}
-use Rattle.forec_kernel.specs.Engine.{Written}
-use Rattle.thread_code.specs.Plain.{plain_code}
+use Rattle.forec_kernel.specs.Engine.{Job, Start, Wake, Written}
+use Rattle.thread_code.specs.Plain.{PlainCode, plain_code}
 use Rattle.core_machine.specs.declared.thread.Thread.{Thread}
 use Rattle.core_machine.specs.Threads.{Loaded}
 use Rattle.core_machine.specs.Forks.{jobs_at}
+use Rattle.copy_slots.specs.Ports.{sent}
 use Rattle.tick_jobs.specs.Branches.{IsBranchOf}
+use Rattle.core_seats.specs.Asking.{ArePaused}
+use Rattle.core_seats.specs.Posts.{Mail}
 use Rattle.core_seats.specs.Keeping.{SchedulerState, code_in, IsSeated, MayAsk, IsJobFor, AtFork, CanSend}
 use Rattle.core_seats.specs.Waiting.{IsOut}
 use Rattle.tick_jobs.proofs.Lists.{at_map}
@@ -28,6 +31,15 @@ out_taken b (w ∷ ws) zero h = absurd h
 out_taken b (w ∷ ws) (suc k) h =
     ⊎_elim (λ e. record { index = 0; job = w; low = omega arith; high = omega arith; at = refl; is = e })
     (λ o. let p = out_taken b ws k o in record { index = suc p.index; job = p.job; low = omega arith; high = let x = p.high in omega (arith, x); at = p.at; is = p.is }) h
+
+-- ---- what was sent through other mailboxes
+
+may_keeps : (c : PlainCode) (m m' : Mail) (k : ℕ) (j : Job) → sent m' k ≡ sent m k → MayAsk c m k j → MayAsk c m' k j
+may_keeps c m m' k (Start args values a) e h = tt
+may_keeps c m m' k (Wake values a) e h = subst (ArePaused c k) (sym e) h
+
+pub job_keeps : (c : PlainCode) (m m' : Mail) (t : ℕ) (w : Written) (it : IsJobFor c m t w) → sent m' it.mailbox ≡ sent m it.mailbox → IsJobFor c m' t w
+job_keeps c m m' t w it same = record { mailbox = it.mailbox; branch = it.branch; mine = it.mine; inside = it.inside; above = it.above; may = may_keeps c m m' it.mailbox w.job same it.may }
 
 -- ---- the k-th of them
 

@@ -5,7 +5,7 @@ use Rattle.std.proofs.lemmas.Option.{slice_get-get_or}
 use Rattle.core_bells.specs.Ropes.{RopeState, IsSameRope}
 use Rattle.core_seats.specs.Keeping.{SchedulerState}
 use Rattle.core_seats.specs.Waiting.{RestsOrWaits}
-use Rattle.core_seats.specs.Serving.{KeepsServing}
+use Rattle.core_seats.specs.Serving.{KeepsOthers, KeepsServing}
 use Rattle.core_seats.specs.Hung.{KeepsRope}
 use Rattle.core_seats.specs.Rounds.{CanServe, IsSameRound}
 use Rattle.core_seats.specs.declared.round.Round.{Round}
@@ -48,8 +48,8 @@ round_moved a b within own next rope =
 pub round_then : (a b c : Round) → IsSameRound a b → IsSameRound b c → IsSameRound a c
 round_then a b c h g = record { own = g.own ∙ h.own; next = g.next; rope = rope_then a.rope b.rope c.rope h.rope g.rope }
 
-pub round_still : (s0 s1 : SchedulerState) (a b : Round) → KeepsServing s0 s1 → IsSameRound a b → CanServe s0 a → CanServe s1 b
-round_still s0 s1 a b keeps same can = record {
+pub round_others : (s0 s1 : SchedulerState) (a b : Round) → KeepsOthers s0 s1 → IsSameRound a b → CanServe s0 a → CanServe s1 b
+round_others s0 s1 a b keeps same can = record {
   next = same.next;
   each = λ i k at.
       let e = can.each i k (ap (λ l. slice_get l i) (sym same.own) ∙ at) in
@@ -57,3 +57,6 @@ round_still s0 s1 a b keeps same can = record {
       let count = keeps.alike.count in (omega (arith, lt, count), keeps.between k e.1);
   all = can_keep s0 s1 0 keeps.alike.count (λ j le w. keeps.between j w) (λ j le v. keeps.vacant j v) can.all;
 }
+
+pub round_still : (s0 s1 : SchedulerState) (a b : Round) → KeepsServing s0 s1 → IsSameRound a b → CanServe s0 a → CanServe s1 b
+round_still s0 s1 a b keeps = round_others s0 s1 a b keeps.others

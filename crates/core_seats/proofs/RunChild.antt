@@ -30,9 +30,10 @@ use Rattle.core_seats.specs.Changes.{Extends}
 use Rattle.core_seats.specs.Done.{HasDone, InJob, through}
 use Rattle.core_seats.specs.Keeping.{SchedulerState, code_in, KeepsPort, KeepsBelow, IsSeated, LastReply, none, last, Idle, QuietAbove, LacksPacket, IsBack}
 use Rattle.core_seats.specs.Following.{HasFollowed}
-use Rattle.core_seats.proofs.Mails.{children_count, child_here, child_else, parent_on_child, is_child, extends_same, extends_one}
+use Rattle.copy_slots.proofs.PortLemmas.{child_here, child_else, parent_on_child}
+use Rattle.core_seats.proofs.Mails.{children_count, is_child, extends_same, extends_one}
 use Rattle.tick_jobs.proofs.Lists.{by_equal, get_set, get_set_else}
-use Rattle.core_seats.proofs.KeepingLemmas.{same_child, done_keeps, quiet_keeps, leaves_then, leaves_less, seated_keeps}
+use Rattle.core_seats.proofs.KeepingLemmas.{same_child, done_keeps, paused_by, quiet_keeps, leaves_then, leaves_less, seated_keeps}
 use Rattle.tick_jobs.proofs.Branching.{branch_above, has_parent}
 use Rattle.tick_jobs.proofs.Once.{answers_once}
 use Rattle.core_seats.proofs.RunChildren.{jobs_once, jobs_more}
@@ -295,15 +296,6 @@ module _ (s0 : SchedulerState) (m : ℕ) (seated : IsSeated s0) (inside : m < le
           parent_end : parent_at at_end.mail.ends m ≡ parent_at s0.mail.ends m
           parent_end = leaves_all.parents m up.0 up.1 (branch_above (code_in s0) seated.valid up.0 m in_threads up.1)
 
-          paused : (k : PacketKind) → RepliesByKind h2 k → plain_kind k ≡ IsPaused → HasPaused h2
-          paused kind.Paused r e = r
-          paused kind.Blank r e = absurd r
-          paused kind.Start r e = absurd r
-          paused kind.Wake r e = absurd r
-          paused kind.Ended r e = cc
-          paused (kind.Trapped place trap) r e = cc
-          paused kind.Over r e = cc
-
           one_longer : (l : List PlainPacket) (z : PlainPacket) → length (l ++ z ∷ []) ≡ length l + 1
           one_longer [] z = refl
           one_longer (a ∷ l) z = let ih = one_longer l z in omega (arith, ih)
@@ -326,7 +318,7 @@ module _ (s0 : SchedulerState) (m : ℕ) (seated : IsSeated s0) (inside : m < le
               done = subst (λ x. HasDone (plain_code x) h2 at_end.mail (idle.jobs ++ asks.job ∷ [])) (sym code_end)
                   (done_keeps (code_in s0) h2 s3.mail at_end.mail (idle.jobs ++ asks.job ∷ []) (λ j mine. work_ends.parents j) ends.done);
               last = subst (λ x. LastReply (plain_code x) m (taken at_end.mail m) h2) (sym code_end)
-                  (subst (λ l. LastReply (code_in s0) m l h2) (sym taken4) (last q' its_answers (paused p'.kind kind')));
+                  (subst (λ l. LastReply (code_in s0) m l h2) (sym taken4) (last q' its_answers (paused_by h2 p'.kind kind')));
               even =
                   ap length answered4 ∙ one_longer (answered s3.mail m) q' ∙ ap (λ l. length l + 1) answered3 ∙ ap (λ n. n + 1) idle.even ∙ sym (one_longer (taken s0.mail m) q)
                   ∙ ap length (sym (taken4 ∙ taken3));

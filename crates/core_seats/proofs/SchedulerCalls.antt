@@ -21,7 +21,8 @@ use Rattle.core_seats.specs.Posts.{Mail}
 use Rattle.core_seats.specs.Done.{InJob}
 use Rattle.core_seats.specs.Keeping.{SchedulerState, code_in, KeepsBelow, IsSeated, IsFitted, Idle, QuietAbove, LacksPacket, IsBack}
 use Rattle.core_seats.specs.Following.{HasFollowed}
-use Rattle.core_seats.proofs.Mails.{state, child_here, is_child, parent_on_child}
+use Rattle.copy_slots.proofs.PortLemmas.{child_here, parent_on_child}
+use Rattle.core_seats.proofs.Mails.{state, is_child}
 use Rattle.tick_jobs.proofs.Lists.{some_once}
 use Rattle.core_seats.proofs.RunChild.{job_can_begin, job_room, job_small, at_work, seated_work, above_work, in_job, followed, its_replies, holds3, at_end, leaves_all, above_end, back}
 

@@ -14,13 +14,12 @@ use Rattle.core_seats.specs.Keeping.{SchedulerState, code_in, IsSeated, HasPacke
 use Rattle.core_seats.specs.Moving.{ChangesPacket, HasSent}
 use Rattle.core_seats.specs.Waiting.{HasTold}
 use Rattle.core_seats.specs.Serving.{ChangesBranches}
-use Rattle.core_seats.proofs.Mails.{alike_then, extends_one, extends_same}
+use Rattle.core_seats.proofs.Mails.{alike_same, alike_then, extends_one, extends_same}
 use Rattle.core_seats.proofs.KeepingLemmas.{grown_same, grown_then, moved_grown, seated_by}
 use Rattle.tick_jobs.proofs.Lists.{take_all}
 use Rattle.core_seats.proofs.LoadLemmas.{take_next}
-use Rattle.core_seats.proofs.NextJob.{job, is_suc, mine_b, inside_m, not_yet, apart}
+use Rattle.core_seats.proofs.NextJob.{job, is_suc, mine_b, inside_m, not_yet, apart, job_keeps}
 use Rattle.core_seats.proofs.NextJob as next
-use Rattle.core_seats.proofs.ChildrenRunLemmas.{may_keeps}
 use Rattle.core_seats.proofs.OneMoreExchange.{changed_is, told_one}
 
 -- ---- changes of a thread's branches
@@ -29,7 +28,7 @@ pub branches_same : (t : ℕ) (a : SchedulerState) → ChangesBranches t a a
 branches_same t a = record {
   code = refl;
   places = refl;
-  alike = record { work = refl; blanks = refl; tells = refl; root = refl; count = refl; stops = extends_same _ _ refl };
+  alike = alike_same a.mail;
   grown = grown_same a.mail;
   seats = refl;
   children = λ j. refl;
@@ -144,14 +143,7 @@ module _ (a b : SchedulerState) (h : Thread) (k number : ℕ) (seated : IsSeated
       told = told1;
       rest = λ i w le at'.
           let it = done.rest i w (omega (arith, le)) at' in
-          record {
-            mailbox = it.mailbox;
-            branch = it.branch;
-            mine = it.mine;
-            inside = it.inside;
-            above = it.above;
-            may = may_keeps (code_in a) b.mail s1.mail it.mailbox w.job (ap sent_by (moves.parents it.mailbox (apart a b done.moves.code seated_b h k number fork done.rest at i it.mailbox w (omega (arith, le)) at' it.branch))) it.may;
-          };
+          job_keeps (code_in a) b.mail s1.mail h.number w it (ap sent_by (moves.parents it.mailbox (apart a b done.moves.code seated_b h k number fork done.rest at i it.mailbox w (omega (arith, le)) at' it.branch)));
     }
 
 -- all were sent

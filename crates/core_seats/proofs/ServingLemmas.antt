@@ -15,8 +15,8 @@ use Rattle.tick_jobs.specs.Branches.{IsBranchOf}
 use Rattle.core_seats.specs.Changes.{Extends, Looked, Grown, IsIdle}
 use Rattle.core_seats.specs.Keeping.{SchedulerState, code_in, KeepsPort, IsSeated, Quiet}
 use Rattle.core_seats.specs.Waiting.{HasChild, IsAtRest, WaitsAt, RestsOrWaits, IsVacant, rests, waits}
-use Rattle.core_seats.specs.Serving.{Touches, OnlyLooks, HasMissed, AllMissed, KeepsServing}
-use Rattle.core_seats.proofs.Mails.{alike_then, extends_same}
+use Rattle.core_seats.specs.Serving.{Touches, OnlyLooks, HasMissed, AllMissed, KeepsOthers, KeepsServing}
+use Rattle.core_seats.proofs.Mails.{alike_same, alike_then, extends_same}
 use Rattle.tick_jobs.proofs.Lists.{by_equal, some_once}
 use Rattle.core_seats.proofs.KeepingLemmas.{grown_same, grown_then, seated_by, same_child, quiet_keeps}
 use Rattle.core_seats.proofs.WaitingLemmas.{between_keeps, between_still}
@@ -90,42 +90,44 @@ child_keeps a b j e h = (h.0, subst (λ (o : Option (Taker PlainPacket)). IsChil
 
 pub keeps_one : (k : ℕ) (a b : SchedulerState) → IsSeated a → k < length a.mail.ends → RestsOrWaits a k → Touches k a b → RestsOrWaits b k → (a.mail.tells ≡ true → Quiet a k → OnlyLooks k a b) → KeepsServing a b
 keeps_one k a b seated inside before t after looks = record {
-  code = t.code;
-  places = t.places;
-  alike = t.alike;
-  grown = t.grown;
-  seat = t.seats 0 (λ e. omega (arith, e));
-  seat_count = t.seat_count;
-  hand_count = t.hand_count;
+  others = record {
+    code = t.code;
+    places = t.places;
+    alike = t.alike;
+    grown = t.grown;
+    seat = t.seats 0 (λ e. omega (arith, e));
+    seat_count = t.seat_count;
+    hand_count = t.hand_count;
+    here = λ j h. by_equal j k (λ n. child_keeps a.mail b.mail j (t.children j n) h) (λ e. subst (HasChild b.mail) (sym e) (between_child b k after));
+    was_here = λ j h. by_equal j k (λ n. child_keeps b.mail a.mail j (sym (t.children j n)) h) (λ e. subst (HasChild a.mail) (sym e) (between_child a k before));
+    between = λ j h. by_equal j k (λ n. between_still a b k t j n h) (λ e. subst (RestsOrWaits b) (sym e) after);
+    vacant = λ j v. by_equal j k (λ n. vacant_by a b (suc j) (t.seats (suc j) (λ e. n (omega (arith, e)))) v) (λ e. absurd (not_vacant a k before (subst (λ i. IsVacant a (suc i)) e v)));
+  };
   root = λ j mine. t.parents j (not_root j mine);
   hands = λ j mine. t.hands j (not_root j mine);
-  here = λ j h. by_equal j k (λ n. child_keeps a.mail b.mail j (t.children j n) h) (λ e. subst (HasChild b.mail) (sym e) (between_child b k after));
-  was_here = λ j h. by_equal j k (λ n. child_keeps b.mail a.mail j (sym (t.children j n)) h) (λ e. subst (HasChild a.mail) (sym e) (between_child a k before));
-  between = λ j h. by_equal j k (λ n. between_still a b k t j n h) (λ e. subst (RestsOrWaits b) (sym e) after);
-  vacant = λ j v. by_equal j k (λ n. vacant_by a b (suc j) (t.seats (suc j) (λ e. n (omega (arith, e)))) v) (λ e. absurd (not_vacant a k before (subst (λ i. IsVacant a (suc i)) e v)));
   quiet = λ tells quiet j lt. quiet_looks k a b (looks tells (quiet k inside)) j (quiet j lt);
 }
   where
     not_root : (j : ℕ) → IsBranchOf (code_in a).shape 0 j → IsBranchOf (code_in a).shape (suc k) j → ⊥
     not_root j mine is = let e = some_once 0 (suc k) (sym mine ∙ is) in absurd (omega (arith, e))
 
-pub keeps_same : (a : SchedulerState) → KeepsServing a a
-keeps_same a = record {
+pub others_same : (a : SchedulerState) → KeepsOthers a a
+others_same a = record {
   code = refl;
   places = refl;
-  alike = record { work = refl; blanks = refl; tells = refl; root = refl; count = refl; stops = extends_same _ _ refl };
+  alike = alike_same a.mail;
   grown = grown_same a.mail;
   seat = refl;
   seat_count = refl;
   hand_count = refl;
-  root = λ j mine. refl;
-  hands = λ j mine. refl;
   here = λ j h. h;
   was_here = λ j h. h;
   between = λ j h. h;
   vacant = λ j v. v;
-  quiet = λ tells quiet. quiet;
 }
+
+pub keeps_same : (a : SchedulerState) → KeepsServing a a
+keeps_same a = record { others = others_same a; root = λ j mine. refl; hands = λ j mine. refl; quiet = λ tells quiet. quiet }
 
 -- a port that stores, or has loaded, a stop word
 module _ (s : SchedulerState) (stored : Bool) (stops : List ℕ) (more : Extends s.mail.stops stops) where
@@ -137,32 +139,34 @@ module _ (s : SchedulerState) (stored : Bool) (stops : List ℕ) (more : Extends
 
   pub keeps_watch : KeepsServing s watched
   keeps_watch = record {
-    code = refl;
-    places = refl;
-    alike = watched_alike;
-    grown = record {
-      sent = λ k. extends_same _ _ refl;
-      got = λ k. extends_same _ _ refl;
-      taken = λ k. extends_same _ _ refl;
-      answered = λ k. extends_same _ _ refl;
-      looked_by_parent = λ k. extends_same _ _ refl;
-      looked_by_child = λ k. extends_same _ _ refl;
-      stops = more;
+    others = record {
+      code = refl;
+      places = refl;
+      alike = watched_alike;
+      grown = record {
+        sent = λ k. extends_same _ _ refl;
+        got = λ k. extends_same _ _ refl;
+        taken = λ k. extends_same _ _ refl;
+        answered = λ k. extends_same _ _ refl;
+        looked_by_parent = λ k. extends_same _ _ refl;
+        looked_by_child = λ k. extends_same _ _ refl;
+        stops = more;
+      };
+      seat = refl;
+      seat_count = refl;
+      hand_count = refl;
+      here = λ j h. h;
+      was_here = λ j h. h;
+      between = λ j h. between_keeps s watched refl refl watched_alike j refl refl (λ i mine. refl) (λ i mine. refl) h;
+      vacant = λ j v. vacant_by s watched (suc j) refl v;
     };
-    seat = refl;
-    seat_count = refl;
-    hand_count = refl;
     root = λ j mine. refl;
     hands = λ j mine. refl;
-    here = λ j h. h;
-    was_here = λ j h. h;
-    between = λ j h. between_keeps s watched refl refl watched_alike j refl refl (λ i mine. refl) (λ i mine. refl) h;
-    vacant = λ j v. vacant_by s watched (suc j) refl v;
     quiet = λ tells q j lt. quiet_keeps j s watched (record { code = refl; seat = refl; child = same_child j s.mail watched.mail refl; branches = λ i mine. refl }) (record { parent = refl; hand = refl; blanks = refl }) (q j lt);
   }
 
-pub keeps_then : (a b c : SchedulerState) → KeepsServing a b → KeepsServing b c → KeepsServing a c
-keeps_then a b c h g = record {
+pub others_then : (a b c : SchedulerState) → KeepsOthers a b → KeepsOthers b c → KeepsOthers a c
+others_then a b c h g = record {
   code = g.code ∙ h.code;
   places = g.places ∙ h.places;
   alike = alike_then a.mail b.mail c.mail h.alike g.alike;
@@ -170,19 +174,27 @@ keeps_then a b c h g = record {
   seat = g.seat ∙ h.seat;
   seat_count = g.seat_count ∙ h.seat_count;
   hand_count = g.hand_count ∙ h.hand_count;
-  root = λ j mine. g.root j (subst (λ x. IsBranchOf (plain_code x).shape 0 j) (sym h.code) mine) ∙ h.root j mine;
-  hands = λ j mine. g.hands j (subst (λ x. IsBranchOf (plain_code x).shape 0 j) (sym h.code) mine) ∙ h.hands j mine;
   here = λ j x. g.here j (h.here j x);
   was_here = λ j x. h.was_here j (g.was_here j x);
   between = λ j x. g.between j (h.between j x);
   vacant = λ j v. g.vacant j (h.vacant j v);
+}
+
+pub keeps_then : (a b c : SchedulerState) → KeepsServing a b → KeepsServing b c → KeepsServing a c
+keeps_then a b c h g = record {
+  others = others_then a b c h.others g.others;
+  root = λ j mine. g.root j (subst (λ x. IsBranchOf (plain_code x).shape 0 j) (sym h.code) mine) ∙ h.root j mine;
+  hands = λ j mine. g.hands j (subst (λ x. IsBranchOf (plain_code x).shape 0 j) (sym h.code) mine) ∙ h.hands j mine;
   quiet = λ tells quiet j lt.
       let count = h.alike.count in
       g.quiet (h.alike.tells ∙ tells) (λ i less. h.quiet tells quiet i (omega (arith, less, count))) j (omega (arith, lt, count));
 }
 
+pub others_seated : (a b : SchedulerState) → KeepsOthers a b → IsSeated a → IsSeated b
+others_seated a b k seated = seated_by a b k.code k.places k.alike k.seat_count k.hand_count seated
+
 pub keeps_seated : (a b : SchedulerState) → KeepsServing a b → IsSeated a → IsSeated b
-keeps_seated a b h seated = seated_by a b h.code h.places h.alike h.seat_count h.hand_count seated
+keeps_seated a b h = others_seated a b h.others
 
 -- ---- nothing to do
 

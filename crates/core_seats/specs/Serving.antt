@@ -54,9 +54,8 @@ pub record AllMissed (a b : SchedulerState) : Type 0 where
   pub answered : (k : ℕ) → answered b.mail k ≡ answered a.mail k
   pub still : (before : Mail) (k : ℕ) → Grown before a.mail → IsIdle (code_in a).shape before a.mail k → IsIdle (code_in a).shape before b.mail k
 
--- What serving some mailboxes keeps: thread 0, with its branches' ends and their packets in its hand; that each thread rests, or waits at a
--- fork; which seats are empty; and where both ends of each mailbox are there, that nothing is under way.
-pub record KeepsServing (a b : SchedulerState) : Type 0 where
+-- Thread 0 stays in its seat, or out of it, and each other thread rests, or waits at a fork, if it did; an empty seat stays empty.
+pub record KeepsOthers (a b : SchedulerState) : Type 0 where
   pub code : b.code ≡ a.code
   pub places : b.places ≡ a.places
   pub alike : KeepsPort a.mail b.mail
@@ -64,10 +63,16 @@ pub record KeepsServing (a b : SchedulerState) : Type 0 where
   pub seat : slice_get b.seats 0 ≡ slice_get a.seats 0
   pub seat_count : length b.seats ≡ length a.seats
   pub hand_count : length b.hands ≡ length a.hands
-  pub root : (j : ℕ) → IsBranchOf (code_in a).shape 0 j → parent_at b.mail.ends j ≡ parent_at a.mail.ends j
-  pub hands : (j : ℕ) → IsBranchOf (code_in a).shape 0 j → slice_get b.hands j ≡ slice_get a.hands j
   pub here : (j : ℕ) → HasChild a.mail j → HasChild b.mail j
   pub was_here : (j : ℕ) → HasChild b.mail j → HasChild a.mail j
   pub between : (j : ℕ) → RestsOrWaits a j → RestsOrWaits b j
   pub vacant : (j : ℕ) → IsVacant a (suc j) → IsVacant b (suc j)
+
+-- What serving some mailboxes keeps: also the ends of thread 0's branches and their packets in its hand; and where both ends of each mailbox
+-- are there, that nothing is under way.
+pub record KeepsServing (a b : SchedulerState) : Type 0 where
+  pub others : KeepsOthers a b
+  pub open others use *
+  pub root : (j : ℕ) → IsBranchOf (code_in a).shape 0 j → parent_at b.mail.ends j ≡ parent_at a.mail.ends j
+  pub hands : (j : ℕ) → IsBranchOf (code_in a).shape 0 j → slice_get b.hands j ≡ slice_get a.hands j
   pub quiet : a.mail.tells ≡ true → ((j : ℕ) → j < length a.mail.ends → Quiet a j) → (j : ℕ) → j < length a.mail.ends → Quiet b j

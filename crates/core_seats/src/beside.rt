@@ -11,11 +11,11 @@ ghost use Rattle.core_machine.specs.Replies.{RepliesByKind};
 ghost use Rattle.core_seats.specs.Changes.{Grown};
 ghost use Rattle.core_seats.specs.Ending.{HasRepliedTo};
 ghost use Rattle.core_seats.specs.Keeping.{code_in, IsSeated, Sits, HasPacket, AtFork};
-ghost use Rattle.core_seats.specs.OnJob.{IsOnJob, KeepsOthers};
+ghost use Rattle.core_seats.specs.OnJob.{IsOnJob};
 ghost use Rattle.tick_jobs.specs.Branches.{IsBranchOf};
 ghost use Rattle.core_seats.specs.Resting.{RootRests};
 ghost use Rattle.core_seats.specs.Rounds.{AllIdle, CanServe, IsIdleAt, IsSameRound, SomeWorked};
-ghost use Rattle.core_seats.specs.Serving.{AllMissed, KeepsServing};
+ghost use Rattle.core_seats.specs.Serving.{AllMissed, KeepsOthers, KeepsServing};
 ghost use Rattle.core_seats.specs.Waiting.{HasChild, HasTold, IsForked, RestsOrWaits, IsVacant, IsGathering, HasReplies};
 
 use crate::round::{Round, index_at};

@@ -1,9 +1,7 @@
 -- Thread 0, tick by tick.
 use Rattle.std.proofs.Common.{◌≡◌, ℕ, suc, ◌<◌, ◌≤◌, true, List, [], ◌∷◌, ◌++◌, map, take, length, refl, sym, ap, ◌∙◌, subst, arith}
 use Rattle.std.specs.Prelude.{Option, Some, None, ℤ}
-use Rattle.std.proofs.lemmas.List.{length-replicate}
 use Rattle.forec_kernel.specs.Composed.{TickInput}
-use Rattle.forec_kernel.specs.declared.shape.VarCopy.{VarCopy}
 use Rattle.forec_kernel.specs.declared.shape.Outcome.{Outcome}
 use Rattle.forec_kernel.specs.Packets as packet
 use Rattle.forec_kernel.specs.Packets.{PlainPacket}
@@ -29,7 +27,7 @@ use Rattle.tick_jobs.specs.Outcomes.{HasOutputs, outcome_in}
 use Rattle.tick_jobs.specs.Ready.{IsReady}
 use Rattle.tick_jobs.specs.Told.{DidJobs}
 use Rattle.tick_jobs.proofs.Logs.{job_begins, job_does}
-use Rattle.tick_jobs.proofs.Rooms.{no_params, all_uses}
+use Rattle.tick_jobs.proofs.Rooms.{blank_room}
 use Rattle.tick_jobs.proofs.TickOutcome.{comes_to}
 use Rattle.exchange_meaning.specs.Logged.{ExchangeLog}
 use Rattle.exchange_meaning.specs.Telling.{TellsBranches}
@@ -57,10 +55,7 @@ none_replayed c valid l log r loaded number resting stands passed n count is bla
   resting = resting;
   stands = stands;
   passed = passed;
-  room = record {
-    args = ap (λ (q : PlainPacket). length q.args) is ∙ sym (no_params c.shape valid.shape);
-    copies = ap (λ (q : PlainPacket). length q.copies) is ∙ length-replicate {A = VarCopy} n _ ∙ count ∙ sym (all_uses c.shape valid.shape);
-  };
+  room = blank_room c.shape valid.shape n (plain_packet r.root) count is;
   ready = λ e. fresh refl blank;
   paused = λ e p. let f = sym blank ∙ p in cc;
 }
@@ -284,12 +279,3 @@ module _ (c : PlainCode) (valid : IsValidCode c) (l : Log) (log : ExchangeLog) (
           last = last;
           comes = comes_to c.shape r2.root d.reply d.is o told outputs values;
         }
-
-pub blank_kind : (k : PacketKind) → plain_kind k ≡ packet.Blank → k ≡ kind.Blank
-blank_kind kind.Blank e = refl
-blank_kind kind.Start e = cc
-blank_kind kind.Wake e = cc
-blank_kind kind.Paused e = cc
-blank_kind kind.Ended e = cc
-blank_kind kind.Over e = cc
-blank_kind (kind.Trapped place trap) e = cc

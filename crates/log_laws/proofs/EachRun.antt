@@ -2,11 +2,11 @@
 use Rattle.std.proofs.Common.{ℕ, ◌<◌, ◌≤◌, ◌≡◌, ◌⊎◌, inl, inr, Some, List, [], ◌∷◌, ◌++◌, map, length, refl, sym, ap, subst, ◌∙◌, append_assoc, append-nil, arith}
 use Rattle.forec_kernel.specs.declared.shape.VarCopy.{VarCopy}
 use Rattle.forec_kernel.specs.declared.shape.Outcome.TheVariants as outcome
-use Rattle.forec_kernel.specs.Composed.{TickInput, MeansReply, next_state, state_after, tick_jobs, tick_job}
-use Rattle.forec_kernel.specs.Engine.{Job, Start, Wake, Reply, WasPaused, WasEnded, WasTrapped, WasOver, Exchange, Output, Nothing, last_reply, AllReply}
+use Rattle.forec_kernel.specs.Composed.{TickInput, state_after, tick_jobs, tick_job}
+use Rattle.forec_kernel.specs.Engine.{Job, Start, Wake, Reply, WasPaused, Exchange, Output, Nothing, last_reply, AllReply}
 use Rattle.forec_kernel.specs.Shapes.{PlainKernel}
 use Rattle.forec_kernel.specs.Solo.{Solo, kernel_engine, KernelAlone}
-use Rattle.forec_kernel.specs.Ticks.{TickState, Fresh, Tick, tick}
+use Rattle.forec_kernel.specs.Ticks.{Fresh, tick}
 use Rattle.forec_kernel.specs.WellFormed.{WellFormed}
 use Rattle.forec_kernel.proofs.SoloTotal.{solo_total}
 use Rattle.forec_kernel.proofs.Distinct.{branches_apart}
@@ -22,6 +22,7 @@ use Rattle.exchange_meaning.specs.Replays.{AllAgree}
 use Rattle.exchange_meaning.specs.LogOf.{AllButLastPause, LogOfTicks}
 use Rattle.exchange_meaning.proofs.Complete.{alone_length}
 use Rattle.forec_kernel.proofs.KeptCopies.{jobs_then}
+use Rattle.exchange_meaning.proofs.OneMore.{last_there, pause_at, paused_reply}
 use Rattle.exchange_meaning.proofs.OwnBranches.{all_mine}
 use Rattle.exchange_meaning.proofs.Shaped.{below_of}
 use Rattle.exchange_meaning.proofs.Sound.{tells_answered, log_of_same}
@@ -47,21 +48,6 @@ paused_last (o ∷ []) (l ∷ m ∷ ls) copies u h e = absurd h.1
 paused_last (o ∷ p ∷ os) (l ∷ ls) copies u h e =
     let r = paused_last (p ∷ os) ls copies u h.1 e in
     record { front = l ∷ r.front; last = r.last; copies = r.copies; units = r.units; is = ap (λ x. l ∷ x) r.is; paused = r.paused }
-
-pause_at : (k : PlainKernel) (s : TickState) (old : List TickInput) (t turn : TickInput) (more : List TickInput) → AllButLastPause k s ((old ++ t ∷ []) ++ turn ∷ more) → (tick k t.budget (state_after k s old) t.row).outcome ≡ outcome.Paused
-pause_at k s [] t turn more h = h.0
-pause_at k s (x ∷ []) t turn more h = pause_at k (next_state k s x) [] t turn more h.1
-pause_at k s (x ∷ y ∷ old) t turn more h = pause_at k (next_state k s x) (y ∷ old) t turn more h.1
-
-paused_reply : (k : PlainKernel) (T : Tick) (r : Reply) → MeansReply k T r → T.outcome ≡ outcome.Paused → (copies : List VarCopy) × (u : ℕ) × (r ≡ WasPaused copies u)
-paused_reply k T (WasPaused copies u) h p = (copies, u, refl)
-paused_reply k T (WasEnded copies u) h p = let f = sym p ∙ h.0 in cc
-paused_reply k T (WasTrapped place trap u) h p = let f = sym p ∙ h in cc
-paused_reply k T WasOver h p = let f = sym p ∙ h in cc
-
-last_there : (os : List Output) (o : Output) → AllReply (o ∷ os) → (r : Reply) × (last_reply (o ∷ os) ≡ Some r)
-last_there [] o h = (h.0.0, h.0.1)
-last_there (p ∷ os) o h = last_there os p h.1
 
 some_snoc : {A : Type 0} → (js : List Job) (j : Job) → [] ≡ js ++ j ∷ [] → A
 some_snoc [] j e = cc

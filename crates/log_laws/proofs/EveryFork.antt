@@ -1,16 +1,18 @@
 -- Where a thread of a valid code by itself comes to a fork, a branch that it wakes has paused, and there were not too many forks.
-use Rattle.std.proofs.Common.{◌≡◌, ℕ, zero, suc, ◌+◌, ◌-◌, ◌*◌, ◌<◌, ◌≤◌, ◌==◌, Bool, true, false, cond, Some, None, List, [], ◌∷◌, ◌++◌, map, length, get_or, refl, sym, ap, ◌∙◌, subst, append_assoc, append-nil, arith}
-use Rattle.std.specs.Prelude.{slice_get, replicate}
+use Rattle.std.proofs.Common.{◌≡◌, ℕ, zero, suc, ◌+◌, ◌-◌, ◌*◌, ◌<◌, ◌≤◌, ◌==◌, Bool, true, false, Some, None, List, [], ◌∷◌, ◌++◌, map, length, refl, sym, ap, ◌∙◌, subst, append_assoc, append-nil, arith}
 use Rattle.std.proofs.lemmas.Option.{slice_get_within}
 use Rattle.forec_kernel.specs.Engine.{Job, Start, Wake, allowance_of, Reply, WasPaused, Seed, Starts, Wakes, Written, written, AtFork, Engine, run_for, Rest, Asleep, Nothing, Exchange, Output, AtEvent, RunsOn, over, event, IfElse, Begins, Serves, Alone, Answered, pair_up, pair_forks, pair_all, answers_with, ends_at, first_jobs}
 use Rattle.forec_kernel.specs.Reached.{AtRest, Inside, Reached, none, begun, stepped, joined, answered}
 use Rattle.thread_code.specs.Plain.{PlainCode}
-use Rattle.thread_code.specs.Valid.{IsValidCode, costs}
+use Rattle.thread_code.specs.Valid.{IsValidCode}
 use Rattle.thread_code.specs.Machine.{Machine, On, Waits, Merges, Failing, Paused, Ended, Trapped, Exceeded, Stuck, step, join}
 use Rattle.thread_code.specs.Alone.{block_of, view_of, machine_units, code_engine, CodeAlone}
 use Rattle.thread_code.proofs.Unstuck.{Good, reached_good}
 use Rattle.exchange_meaning.proofs.TellingLemmas.{equal_number}
-use Rattle.tick_jobs.proofs.AtEachFork.{Lively, EndsPaused, WakesPaused, Fine, step_fine, join_fine}
+use Rattle.tick_jobs.proofs.AfterFork.{place_most}
+use Rattle.tick_jobs.proofs.AtEachFork.{EndsPaused, WakesPaused, Fine, step_fine, join_fine}
+use Rattle.tick_jobs.proofs.FollowingLemmas.{Rested, begins_fine}
+use Rattle.tick_jobs.proofs.Forks.{times_grow}
 use Rattle.tick_jobs.specs.Branches.{replies_to}
 
 -- a branch that is woken has paused
@@ -37,10 +39,6 @@ EachForkKnown =
     CodeAlone c t (xs ++ x ∷ []) (os ++ o ∷ []) → (js : List (List Written)) (ws : List Written) → o ≡ record { jobs = js ++ ws ∷ []; reply = None } → length js ≡ length x.replies →
     ForkKnown (most_forks c t (allowance_of x.job)) (length x.replies) (pair_all xs os ++ pair_forks js x.replies) ws
 
-times_grow : (m u v : ℕ) → u ≤ v → m * u ≤ m * v
-times_grow zero u v le = omega arith
-times_grow (suc m) u v le = let ih = times_grow m u v le in omega (arith, ih, le)
-
 woken_all : (past : List Answered) (a : ℕ) (seeds : List Seed) → WakesPaused past seeds → AllWokenPaused past (map (written a) seeds)
 woken_all past a [] h = tt
 woken_all past a (Starts b args values ∷ seeds) h = (tt, woken_all past a seeds h)
@@ -59,31 +57,6 @@ module _ (c : PlainCode) (valid : IsValidCode c) (t : ℕ) (lt : t < length c.th
   abbrev e : Engine Machine
   e = code_engine c t
 
-  abbrev Rested : List Answered → Rest Machine → Type 0
-  Rested past (Asleep (Paused wake o u)) = (wake.steps ≡ (block_of c t).steps) × Lively past o.live
-  Rested past (Asleep _) = ⊥
-  Rested past Nothing = Unit {0}
-
-  none_live : (n b : ℕ) → get_or (replicate n false) b false ≡ true → ⊥
-  none_live zero zero h = cc
-  none_live zero (suc b) h = cc
-  none_live (suc n) zero h = cc
-  none_live (suc n) (suc b) h = none_live n b h
-
-  begins_fine : (past : List Answered) (job : Job) (r : Rest Machine) (s : Machine) → Rested past r → Begins e job r s → Fine c valid t 0 past s
-  begins_fine past (Start args values a) r s h b =
-      subst (Fine c valid t 0 past) (sym b) ((refl, omega arith), λ b alive. absurd (none_live (length c.shape.threads) b alive))
-  begins_fine past (Wake values a) (Asleep (Paused wake o u)) s h b = subst (Fine c valid t 0 past) (sym b) ((h.0, omega arith), h.1)
-  begins_fine past (Wake values a) (Asleep (On p fs o u)) s h b = absurd h
-  begins_fine past (Wake values a) (Asleep (Waits w o u)) s h b = absurd h
-  begins_fine past (Wake values a) (Asleep (Merges m o u)) s h b = absurd h
-  begins_fine past (Wake values a) (Asleep (Failing place trap u)) s h b = absurd h
-  begins_fine past (Wake values a) (Asleep (Ended o u)) s h b = absurd h
-  begins_fine past (Wake values a) (Asleep (Trapped place trap u)) s h b = absurd h
-  begins_fine past (Wake values a) (Asleep (Exceeded u)) s h b = absurd h
-  begins_fine past (Wake values a) (Asleep (Stuck u)) s h b = absurd h
-  begins_fine past (Wake values a) Nothing s h b = absurd b
-
   -- a machine that is reached in a job, after n forks of it
   record At (a n : ℕ) (past : List Answered) (m : Machine) : Type 0 where
     pub exchanges : List Exchange
@@ -96,7 +69,7 @@ module _ (c : PlainCode) (valid : IsValidCode c) (t : ℕ) (lt : t < length c.th
   record Rests (past : List Answered) (r : Rest Machine) : Type 0 where
     pub exchanges : List Exchange
     pub reached : Reached e exchanges (AtRest r)
-    pub rested : Rested past r
+    pub rested : Rested c valid t lt past r
 
   nothing_rests : (past : List Answered) → Rests past Nothing
   nothing_rests past = record { exchanges = []; reached = none; rested = tt }
@@ -117,13 +90,6 @@ module _ (c : PlainCode) (valid : IsValidCode c) (t : ℕ) (lt : t < length c.th
   abbrev most : ℕ → ℕ
   most a = most_forks c t a
 
-  place_most : (at : ℕ) → at < length (block_of c t).steps → cond (costs (slice_get (block_of c t).steps at)) (length (block_of c t).steps + 1) at ≤ length (block_of c t).steps + 1
-  place_most at less = by_test (costs (slice_get (block_of c t).steps at))
-    where
-      by_test : (b : Bool) → cond b (length (block_of c t).steps + 1) at ≤ length (block_of c t).steps + 1
-      by_test true = omega arith
-      by_test false = omega (arith, less)
-
   seeds_once : (x y : List Seed) → AtFork x ≡ AtFork y → x ≡ y
   seeds_once x y e = cc
 
@@ -143,7 +109,7 @@ module _ (c : PlainCode) (valid : IsValidCode c) (t : ℕ) (lt : t < length c.th
       let less = slice_get_within g.0.depths w.done.at (length w.done.stack) g.0.here in
       let long = ap length g.0.same in
       let own = ap length f.0 in
-      let near = place_most w.done.at (omega (arith, less, long, own, g.0.valid.long)) in
+      let near = place_most c valid t lt w.done.at (omega (arith, less, long, own, g.0.valid.long)) in
       let grows = times_grow (length (block_of c t).steps + 2) u a le in
       record { few = omega (arith, f.1, near, grows); woken = woken_all past (a - u) seeds (subst (WakesPaused past) same f.5.wakes) }
 
@@ -263,7 +229,7 @@ module _ (c : PlainCode) (valid : IsValidCode c) (t : ℕ) (lt : t < length c.th
     before = [];
     reached = begun h.exchanges x.job r m h.reached b;
     allowance = refl;
-    fine = begins_fine past x.job r m h.rested b;
+    fine = begins_fine c valid t lt past x.job r m h.rested b;
   }
 
   alone_known : (xs : List Exchange) (os : List Output) (x : Exchange) (o : Output) (past : List Answered) (r : Rest Machine) → Rests past r → length os ≡ length xs → Alone e (xs ++ x ∷ []) r (os ++ o ∷ []) →

@@ -1,6 +1,5 @@
 mod Whole
 mod EveryFork
-mod LeftBy
 mod LogLists
 mod SomeLog
 mod EachRun

@@ -1,18 +1,15 @@
 -- What was told, logged and put into a log.
-use Rattle.std.proofs.Common.{ℕ, suc, ◌≡◌, ◌==◌, Bool, true, false, cond, Some, List, [], ◌∷◌, ◌++◌, map, length, refl, sym, ap, subst, ◌∙◌, arith, append_assoc, append-nil}
+use Rattle.std.proofs.Common.{ℕ, ◌≡◌, ◌==◌, Bool, true, false, cond, Some, List, [], ◌∷◌, ◌++◌, refl, sym, ap, subst, ◌∙◌, arith}
 use Rattle.std.proofs.lemmas.Bool.Decides.{nat_tests}
 use Rattle.forec_kernel.specs.declared.shape.VarCopy.{VarCopy}
-use Rattle.forec_kernel.specs.Engine.{Job, Start, Wake, Reply, WasPaused, WasOver, Written, Exchange, Output, Answered, pair_forks, pair_all, AllReply}
-use Rattle.forec_kernel.specs.Shapes.{PlainShape}
+use Rattle.forec_kernel.specs.Engine.{Job, Start, Wake, Reply, WasPaused, Written, Output, Answered}
 use Rattle.forec_kernel.proofs.Apart.{NotIn, EachApart, AllApart}
-use Rattle.exchange_meaning.specs.Logged.{Logged, ExchangeLog, jobs_in, RepliesAre, logged, told_to, AreTold}
+use Rattle.exchange_meaning.specs.Logged.{Logged, ExchangeLog, jobs_in, RepliesAre, logged, told_to}
+use Rattle.exchange_meaning.proofs.OneMore.{same_self}
 use Rattle.exchange_meaning.proofs.TellingLemmas.{equal_number}
 use Rattle.tick_jobs.specs.Branches.{replies_to}
 use Rattle.log_laws.proofs.EveryFork.{WokenPaused, AllWokenPaused}
 use Rattle.tick_jobs.proofs.AtEachFork.{EndsPaused}
-
-pub same_self : (n : ℕ) → (n == n) ≡ true
-same_self n = grind (arith, nat_tests)
 
 pub other_number : (a b : ℕ) → (a ≡ b → ⊥) → (a == b) ≡ false
 other_number a b h = by (a == b) refl
@@ -23,29 +20,6 @@ other_number a b h = by (a == b) refl
 
 pub unequal : (a b : ℕ) → (a == b) ≡ false → a ≡ b → ⊥
 unequal a b e h = grind (arith, nat_tests)
-
-pub told_front : (s : PlainShape) (t : ℕ) (xs ys : List Answered) → AreTold s t (xs ++ ys) → AreTold s t xs
-told_front s t [] ys h = tt
-told_front s t (x ∷ xs) ys h = (h.0, told_front s t xs ys h.1)
-
-pub told_back : (s : PlainShape) (t : ℕ) (xs ys : List Answered) → AreTold s t (xs ++ ys) → AreTold s t ys
-told_back s t [] ys h = h
-told_back s t (x ∷ xs) ys h = told_back s t xs ys h.1
-
-pub pairs_snoc : (xs : List Exchange) (os : List Output) (x : Exchange) (o : Output) → length os ≡ length xs → pair_all (xs ++ x ∷ []) (os ++ o ∷ []) ≡ pair_all xs os ++ pair_forks o.jobs x.replies
-pairs_snoc [] [] x o c = append-nil (pair_forks o.jobs x.replies)
-pairs_snoc [] (p ∷ os) x o c = cc
-pairs_snoc (y ∷ xs) [] x o c = cc
-pairs_snoc (y ∷ xs) (p ∷ os) x o c =
-    let c' : length os ≡ length xs = cc in ap (λ l. pair_forks p.jobs y.replies ++ l) (pairs_snoc xs os x o c') ∙ sym (append_assoc (pair_forks p.jobs y.replies) (pair_all xs os) (pair_forks o.jobs x.replies))
-
-pub all_reply : (os : List Output) (o : Output) (r : Reply) → AllReply os → o.reply ≡ Some r → AllReply (os ++ o ∷ [])
-all_reply [] o r h e = ((r, e), tt)
-all_reply (p ∷ os) o r h e = (h.0, all_reply os o r h.1 e)
-
-pub jobs_snoc : (xs : List Exchange) (x : Exchange) → map (λ y. y.job) (xs ++ x ∷ []) ≡ map (λ y. y.job) xs ++ x.job ∷ []
-jobs_snoc [] x = refl
-jobs_snoc (y ∷ xs) x = ap (λ l. y.job ∷ l) (jobs_snoc xs x)
 
 pub in_snoc : (ls : List Logged) (l : Logged) → jobs_in (ls ++ l ∷ []) ≡ jobs_in ls ++ l.job ∷ []
 in_snoc [] l = refl
@@ -122,11 +96,3 @@ put_here L p ls = ap (λ t. cond t ls (L p)) (same_self p)
 
 pub put_else : (L : ExchangeLog) (p : ℕ) (ls : List Logged) (t : ℕ) → (t ≡ p → ⊥) → put_log L p ls t ≡ L t
 put_else L p ls t h = ap (λ x. cond x ls (L t)) (other_number t p h)
-
-abbrev pub overs : List Written → List Reply
-overs [] = []
-overs (w ∷ ws) = WasOver ∷ overs ws
-
-pub overs_count : (ws : List Written) → length (overs ws) ≡ length ws
-overs_count [] = refl
-overs_count (w ∷ ws) = ap suc (overs_count ws)

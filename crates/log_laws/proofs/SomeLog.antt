@@ -2,7 +2,7 @@
 use Rattle.std.proofs.Common.{ℕ, zero, suc, ◌+◌, ◌-◌, ◌<◌, ◌≤◌, ◌≡◌, ◌==◌, ◌⊎◌, inl, inr, Bool, true, false, cond, None, Some, List, [], ◌∷◌, ◌++◌, map, length, take, refl, sym, ap, subst, ◌∙◌, arith, append_assoc, append-nil}
 use Rattle.std.proofs.lemmas.List.{length-map}
 use Rattle.std.proofs.lemmas.Bool.{cases_lt}
-use Rattle.forec_kernel.specs.Engine.{Job, Start, Wake, Reply, WasPaused, WasEnded, WasTrapped, WasOver, Seed, Written, written, View, Going, AtFork, Pausing, Ending, Trapping, Exceeding, Engine, Rest, Asleep, Nothing, Exchange, Output, Alone, allowance_of, Answered, pair_up, pair_forks, pair_all, AllReply, last_reply, AtEvent, IsStopped, Reaches, over, event, first_jobs, ends_at, answers_with, IfElse, Serves, Begins}
+use Rattle.forec_kernel.specs.Engine.{Job, Start, Wake, Reply, WasPaused, WasEnded, WasTrapped, WasOver, Seed, Written, written, View, Going, AtFork, Pausing, Ending, Trapping, Exceeding, Engine, Rest, Asleep, Nothing, Exchange, Output, Alone, allowance_of, Answered, pair_up, pair_forks, pair_all, AllReply, last_reply, AtEvent, IsStopped, Reaches, over, event, first_jobs, ends_at, answers_with, Serves, Begins}
 use Rattle.forec_kernel.specs.Shapes.{PlainShape}
 use Rattle.forec_kernel.proofs.Apart.{Apart, EachApart, AllApart}
 use Rattle.forec_kernel.proofs.Same.{IsTotal, serves_total}
@@ -10,8 +10,8 @@ use Rattle.exchange_meaning.specs.Logged.{Logged, ExchangeLog, jobs_in, RepliesA
 use Rattle.exchange_meaning.proofs.TellingLemmas.{equal_number, told_then, last_at}
 use Rattle.exchange_meaning.proofs.Complete.{alone_length}
 use Rattle.log_laws.proofs.EveryFork.{AllWokenPaused, ForkKnown}
-use Rattle.log_laws.proofs.LeftBy.{left_by}
-use Rattle.log_laws.proofs.LogLists.{same_self, unequal, told_front, told_back, pairs_snoc, all_reply, jobs_snoc, in_snoc, replies_snoc, last_apart, MayBegin, may_begin, woken_later, put_log, put_here, put_else, overs, overs_count}
+use Rattle.exchange_meaning.proofs.OneMore.{LastFork, all_reply, jobs_snoc, overs, overs_count, pairs_snoc, told_back, told_front, left_by, served_on, ws_at}
+use Rattle.log_laws.proofs.LogLists.{unequal, in_snoc, replies_snoc, last_apart, MayBegin, may_begin, woken_later, put_log, put_here, put_else}
 
 module _ (S : Type 0) (es : ℕ → Engine S) (s : PlainShape) (below : (t b : ℕ) → HasBranch s t b → (t < b) × (b < length s.threads)) (total : (t : ℕ) → IsTotal (es t)) where
   abbrev pub threads : ℕ
@@ -198,34 +198,16 @@ module _ (S : Type 0) (es : ℕ → Engine S) (s : PlainShape) (below : (t b : �
         kept = kept_none L;
       }
 
-      abbrev ws_at : S → List Seed → List Written
-      ws_at st seeds = map (written (a - e.units st)) seeds
-
-      abbrev LastFork : S → List Seed → Output → Rest S → Type 0
-      LastFork s' seeds o r = (o ≡ ends_at (ws_at s' seeds)) × (r ≡ Nothing)
-
-      abbrev NextFork : List Reply → List (List Reply) → S → List Seed → Output → Rest S → Type 0
-      NextFork rs more s' seeds o r = IfElse (length rs == length seeds) ((p : Output) × Serves e a more (e.join rs s') p r × (o ≡ first_jobs (ws_at s' seeds) p)) ((o ≡ ends_at (ws_at s' seeds)) × (r ≡ Nothing))
-
-      served_on : (st s' : S) (seeds : List Seed) (rs : List Reply) (more : List (List Reply)) (o : Output) (r : Rest S) → Reaches e a st s' → e.view s' ≡ AtFork seeds → length rs ≡ length seeds → Serves e a more (e.join rs s') o r →
-          Serves e a (rs ∷ more) st (first_jobs (ws_at s' seeds) o) r
-      served_on st s' seeds rs more o r reach is count serves =
-          event s' reach (subst (λ v. AtEvent e s' v (NextFork rs more s') (first_jobs (ws_at s' seeds) o) r) (sym is) (by_test (length rs == length seeds) (ap (λ n. length rs == n) (sym count) ∙ same_self (length rs))))
-        where
-          by_test : (test : Bool) → test ≡ true → IfElse test ((p : Output) × Serves e a more (e.join rs s') p r × (first_jobs (ws_at s' seeds) o ≡ first_jobs (ws_at s' seeds) p)) ((first_jobs (ws_at s' seeds) o ≡ ends_at (ws_at s' seeds)) × (r ≡ Nothing))
-          by_test true h = (o, serves, refl)
-          by_test false h = cc
-
       module _ (n : ℕ) (past : List Answered) (st : S) (L : ExchangeLog) (knows : Knows n past st) (used : Used past L) (above : Above L) (s' : S) (seeds : List Seed) (reach : Reaches e a st s') (is : e.view s' ≡ AtFork seeds) where
         abbrev ws : List Written
-        ws = ws_at s' seeds
+        ws = ws_at e a s' seeds
 
         ws_count : length ws ≡ length seeds
         ws_count = length-map seeds (written (a - e.units s'))
 
         here : ForkKnown bound n past ws
         here =
-            let k = knows.fork [] (ends_at ws) Nothing (event s' reach (subst (λ v. AtEvent e s' v (LastFork s') (ends_at ws) Nothing) (sym is) (refl, refl))) [] ws refl refl in
+            let k = knows.fork [] (ends_at ws) Nothing (event s' reach (subst (λ v. AtEvent e s' v (LastFork e a s') (ends_at ws) Nothing) (sym is) (refl, refl))) [] ws refl refl in
             let q : n + 0 ≡ n = omega arith in
             subst (λ i. ForkKnown bound i past ws) q (subst (λ ps. ForkKnown bound (n + 0) ps ws) (append-nil past) k)
 
@@ -233,7 +215,7 @@ module _ (S : Type 0) (es : ℕ → Engine S) (s : PlainShape) (below : (t b : �
         own_here =
             let rs = overs ws in
             let first = serves_total S e (total p) a [] (e.join rs s') in
-            let k = knows.own (rs ∷ []) (first_jobs ws first.0) first.1 (served_on st s' seeds rs [] first.0 first.1 reach is (overs_count ws ∙ ws_count) first.2) in
+            let k = knows.own (rs ∷ []) (first_jobs ws first.0) first.1 (served_on e a st s' seeds rs [] first.0 first.1 reach is (overs_count ws ∙ ws_count) first.2) in
             (mine_of ws rs (overs_count ws) (told_front s p (pair_up ws rs) (pair_forks first.0.jobs []) k.0), k.1.0)
 
         told : Told past L ws
@@ -241,10 +223,10 @@ module _ (S : Type 0) (es : ℕ → Engine S) (s : PlainShape) (below : (t b : �
 
         knows_on : (rs : List Reply) → length rs ≡ length ws → Knows (n + 1) (past ++ pair_up ws rs) (e.join rs s')
         knows_on rs count = record {
-          own = λ rss o r h. let k = knows.own (rs ∷ rss) (first_jobs ws o) r (served_on st s' seeds rs rss o r reach is (count ∙ ws_count) h) in
+          own = λ rss o r h. let k = knows.own (rs ∷ rss) (first_jobs ws o) r (served_on e a st s' seeds rs rss o r reach is (count ∙ ws_count) h) in
               (told_back s p (pair_up ws rs) (pair_forks o.jobs rss) k.0, k.1.1);
           fork = λ rss o r h js vs same c.
-              let k = knows.fork (rs ∷ rss) (first_jobs ws o) r (served_on st s' seeds rs rss o r reach is (count ∙ ws_count) h) (ws ∷ js) vs (ap (first_jobs ws) same) (ap suc c) in
+              let k = knows.fork (rs ∷ rss) (first_jobs ws o) r (served_on e a st s' seeds rs rss o r reach is (count ∙ ws_count) h) (ws ∷ js) vs (ap (first_jobs ws) same) (ap suc c) in
               let q : n + suc (length rss) ≡ (n + 1) + length rss = omega arith in
               subst (λ i. ForkKnown bound i ((past ++ pair_up ws rs) ++ pair_forks js rss) vs) q
               (subst (λ ps. ForkKnown bound (n + suc (length rss)) ps vs) (sym (append_assoc past (pair_up ws rs) (pair_forks js rss))) k);
@@ -256,7 +238,7 @@ module _ (S : Type 0) (es : ℕ → Engine S) (s : PlainShape) (below : (t b : �
           rss = t.replies ∷ d.rss;
           o = first_jobs ws d.o;
           rest = d.rest;
-          serves = served_on st s' seeds t.replies d.rss d.o d.rest reach is (t.count ∙ ws_count) d.serves;
+          serves = served_on e a st s' seeds t.replies d.rss d.o d.rest reach is (t.count ∙ ws_count) d.serves;
           reply = d.reply;
           is = d.is;
           used = subst (λ ps. Used ps d.log) (append_assoc past (pair_up ws t.replies) (pair_forks d.o.jobs d.rss)) d.used;
@@ -273,8 +255,8 @@ module _ (S : Type 0) (es : ℕ → Engine S) (s : PlainShape) (below : (t b : �
         | inr h ↦ by_view h.0 h.1 (e.view h.0) refl
       ]
         where
-          plain : (s' : S) → Reaches e a st s' → (v : View) → e.view s' ≡ v → (q : Reply) (r : Rest S) → AtEvent e s' v (LastFork s') (answers_with q) r → Done past st L
-          plain s' reach v is q r at = replied past st L r q (event s' reach (subst (λ w. AtEvent e s' w (LastFork s') (answers_with q) r) (sym is) at)) used above
+          plain : (s' : S) → Reaches e a st s' → (v : View) → e.view s' ≡ v → (q : Reply) (r : Rest S) → AtEvent e s' v (LastFork e a s') (answers_with q) r → Done past st L
+          plain s' reach v is q r at = replied past st L r q (event s' reach (subst (λ w. AtEvent e s' w (LastFork e a s') (answers_with q) r) (sym is) at)) used above
 
           by_view : (s' : S) → Reaches e a st s' → (v : View) → e.view s' ≡ v → Done past st L
           by_view s' reach Going is = absurd (subst IsStopped is reach.stops)

@@ -161,7 +161,7 @@ module _ (c : PlainCode) (valid : IsValidCode c) (t : ℕ) (lt : t < length c.th
     pub wakes : WakesPaused pairs seeds
     pub bound : n + 1 ≤ (length (block_of c t).steps + 2) * machine_units m + (length (block_of c t).steps + 1)
 
-  place_most : (at : ℕ) → at < length (block_of c t).steps → cond (costs (slice_get (block_of c t).steps at)) (length (block_of c t).steps + 1) at ≤ length (block_of c t).steps + 1
+  pub place_most : (at : ℕ) → at < length (block_of c t).steps → cond (costs (slice_get (block_of c t).steps at)) (length (block_of c t).steps + 1) at ≤ length (block_of c t).steps + 1
   place_most at less = by_test (costs (slice_get (block_of c t).steps at))
     where
       by_test : (b : Bool) → cond b (length (block_of c t).steps + 1) at ≤ length (block_of c t).steps + 1

@@ -83,7 +83,7 @@ module _ (c : PlainCode) (valid : IsValidCode c) (t : ℕ) (lt : t < length c.th
   e = code_engine c t
 
   -- what a Wake finds
-  abbrev Rested : List Answered → Rest Machine → Type 0
+  abbrev pub Rested : List Answered → Rest Machine → Type 0
   Rested past (Asleep (Paused wake o u)) = (wake.steps ≡ (block_of c t).steps) × Lively past o.live
   Rested past (Asleep _) = ⊥
   Rested past Nothing = Unit {0}
@@ -105,7 +105,7 @@ module _ (c : PlainCode) (valid : IsValidCode c) (t : ℕ) (lt : t < length c.th
   none_live (suc n) zero h = cc
   none_live (suc n) (suc b) h = none_live n b h
 
-  begins_fine : (past : List Answered) (job : Job) (r : Rest Machine) (s : Machine) → Rested past r → Begins e job r s → Fine c valid t 0 past s
+  pub begins_fine : (past : List Answered) (job : Job) (r : Rest Machine) (s : Machine) → Rested past r → Begins e job r s → Fine c valid t 0 past s
   begins_fine past (Start args values a) r s h b =
       subst (Fine c valid t 0 past) (sym b) ((refl, omega arith), λ b alive. absurd (none_live (length c.shape.threads) b alive))
   begins_fine past (Wake values a) (Asleep (Paused wake o u)) s h b = subst (Fine c valid t 0 past) (sym b) ((h.0, omega arith), h.1)

@@ -1,5 +1,6 @@
 -- What a packet of the root has room for, and the jobs that it is.
 use Rattle.std.proofs.Common.{◌≡◌, ℕ, ℤ, List, [], ◌∷◌, length, false, IsTrue, refl, sym, ap, ◌∙◌, subst, arith}
+use Rattle.std.proofs.lemmas.List.{length-replicate}
 use Rattle.forec_kernel.specs.declared.shape.VarCopy.{VarCopy}
 use Rattle.forec_kernel.specs.Shapes.{PlainThread, PlainShape}
 use Rattle.forec_kernel.specs.Texts.{params_in, uses_in}
@@ -13,7 +14,7 @@ use Rattle.forec_kernel.proofs.TickSteps.{plain_row, plain_start}
 use Rattle.combine_tree.specs.declared.packet.Packet.{Packet}
 use Rattle.combine_tree.specs.declared.packet.PacketKind.{PacketKind}
 use Rattle.combine_tree.specs.declared.packet.PacketKind.TheVariants as kind
-use Rattle.combine_tree.specs.Plain.{plain_kind}
+use Rattle.combine_tree.specs.Plain.{plain_kind, blank_packet}
 use Rattle.thread_code.specs.Valid.{FineShape, of_shape}
 use Rattle.tick_jobs.specs.Jobs.{IsBetweenTicks, copies_before, copies_at, job_with, job_of, next_job_kind}
 use Rattle.tick_jobs.proofs.Copies.{length_count, length_start, length_unmarked, length_row}
@@ -36,11 +37,18 @@ module _ (s : PlainShape) (fine : FineShape s) where
   no_params = root_params s ∙ fine.root.params
 
   -- the root has a copy of each variable
-  pub all_uses : length (uses_in s.threads 0) ≡ length s.variables
+  all_uses : length (uses_in s.threads 0) ≡ length s.variables
   all_uses = ap length fine.root.uses ∙ length_count 0 (length s.variables)
 
   pub uses_count : (n : ℕ) → n ≡ length (uses_in s.threads 0) → count_up 0 n ≡ uses_in s.threads 0
   uses_count n h = ap (count_up 0) (h ∙ all_uses) ∙ sym fine.root.uses
+
+  -- a packet that was just made for it
+  pub blank_room : (n : ℕ) (p : PlainPacket) → n ≡ length s.variables → p ≡ blank_packet 0 n → HasRoom (of_shape s) 0 p
+  blank_room n p count is = record {
+    args = ap (λ (q : PlainPacket). length q.args) is ∙ sym no_params;
+    copies = ap (λ (q : PlainPacket). length q.copies) is ∙ length-replicate {A = VarCopy} n _ ∙ count ∙ sym all_uses;
+  }
 
   module _ (p : PlainPacket) (room : HasRoom (of_shape s) 0 p) where
     pub no_args : p.args ≡ []

@@ -1,21 +1,21 @@
-use Rattle.std.proofs.Common.{rules, ◌≡◌, ◌≤◌, ◌^◌, ◌<◌, ◌+◌, ◌-◌, ◌*◌, Some, None, length, map, refl, sym, ap, ◌∙◌, subst, arith}
+use Rattle.std.proofs.Common.{rules, ℕ, ◌≡◌, ◌≤◌, ◌^◌, ◌<◌, ◌+◌, ◌-◌, ◌*◌, Some, None, List, length, refl, sym, ap, ◌∙◌, subst, arith}
 use Rattle.std.proofs.lemmas.Option.{slice_get_within}
 use Rattle.std.proofs.Math.Facts.{Fits-of_lt}
 use Rattle.thread_code.specs.declared.instruction.CodeParts.{CodeParts}
 use Rattle.thread_code.specs.Plain.{plain_code}
 use Rattle.thread_code.specs.Alone.{block_of}
-use Rattle.core_machine.specs.Threads.{Loaded, StandsFor, LeftByEvent, CanBegin}
+use Rattle.core_machine.specs.Threads.{Loaded, CanBegin}
+use Rattle.forec_kernel.specs.Engine.{Job}
 use Rattle.forec_kernel.specs.Packed.{HasRoom, IsJob}
 use Rattle.thread_code.specs.Valid.{of_shape}
 use Rattle.combine_tree.specs.declared.packet.Packet.{Packet}
 use Rattle.combine_tree.specs.Plain.{plain_packet}
-use Rattle.core_machine.specs.Forks.{jobs_at}
 use Rattle.core_seats.specs.Keeping.{SchedulerState, code_in, QuietAbove, KeepsBelow, HaveHeard}
 use Rattle.core_seats.proofs.KeepingLemmas.{leaves_same, leaves_then, fitted_keeps}
 use Rattle.tick_jobs.proofs.Lists.{past_end}
 use Rattle.core_seats.proofs.ChildrenRunLemmas.{consulted_none, some_number, fitted_b, above_m, inside_m, can_send, some_packet, is_called, sent_above, consulted_more, have_heard}
-use Rattle.core_seats.proofs.Finishing.{job_runs, allowance_is, at_fork, some_at, bound, next}
-use Rattle.tick_jobs.proofs.Forks.{fits_forks, replied_by}
+use Rattle.core_seats.proofs.Finishing.{Counted, job_runs, allowance_is, at_fork, some_at, bound, next}
+use Rattle.tick_jobs.proofs.Forks.{came_to_fork, fits_forks, replied_by, stands_by}
 use Rattle.core_seats.proofs.SchedulerCalls.{loaded_now, resting_now, begins_now, room_now, small_now, raw_fitted, number1, raw_above, raw_followed, reply_room, answer_held, answer_answers, end_back, end_above, end_leaves}
 use Rattle.core_seats.proofs.scheduler.Scheduler.+finish.Goals as goal
 
@@ -169,86 +169,81 @@ finish-loop-self-init g t c =
 
 pub finish-run_children-requires : goal.finish-run_children-requires
 finish-run_children-requires g t c κs within =
+    let i = c.loop-self.invariant in
     let code : c.self.inside.code.now ≡ c.loop-self.self.code = ap (λ (s : SchedulerState). s.code) c.self.view_is in
-    let fork = at_fork c.args.self.now c.loop-self.self c.requires.fitted c.args.thread.now c.loop-self.thread c.run.new.self c.loop-self.invariant.number c.loop-self.invariant.leaves (subst (λ (x : CodeParts). Loaded (plain_code x) c.run.new.self) code c.run.ensures.loaded) c.run.ensures.number
-    (λ xs st. subst (λ (x : CodeParts). StandsFor (plain_code x) c.run.new.self xs) code (c.run.ensures.stands xs (subst (λ (x : CodeParts). StandsFor (plain_code x) c.loop-self.thread xs) (sym code) st)))
-    (subst (λ e. LeftByEvent c.run.new.self e) c.in-Fork.is c.run.ensures.left) (subst (λ (x : CodeParts). c.run.new.self.branches.numbers ≡ map (λ w. w.branch) (jobs_at (plain_code x) c.run.new.self)) code (c.run.ensures.branches c.in-Fork.is)) c.loop-self.invariant.jobs c.loop-self.invariant.job c.loop-self.forks (c.loop-self.invariant.in_job, c.loop-self.invariant.count) in
-    let above = subst (QuietAbove c.loop-self.self) (sym (c.run.ensures.number ∙ c.loop-self.invariant.number)) c.loop-self.invariant.above in
-    let fitted = fitted_keeps c.args.thread.now.number c.args.thread.now.number c.args.self.now c.loop-self.self c.loop-self.invariant.leaves c.requires.fitted in
-    let number = c.run.ensures.number ∙ c.loop-self.invariant.number in
+    let ran = came_to_fork code c.loop-self.thread c.run.new.self c.run.result c.in-Fork.is c.run.ensures.loaded c.run.ensures.number c.run.ensures.stands c.run.ensures.left c.run.ensures.branches in
+    let fork = at_fork c.args.self.now c.loop-self.self c.requires.fitted c.args.thread.now c.loop-self.thread c.run.new.self i.number i.leaves ran i.jobs i.job c.loop-self.forks (i.in_job, i.count) in
+    let above = subst (QuietAbove c.loop-self.self) (sym (c.run.ensures.number ∙ i.number)) i.above in
+    let fitted = fitted_keeps c.args.thread.now.number c.args.thread.now.number c.args.self.now c.loop-self.self i.leaves c.requires.fitted in
+    let number = c.run.ensures.number ∙ i.number in
     let smaller : 3 * (257 - c.run.new.self.number) + 1 < 3 * (257 - c.args.thread.now.number) + 2 = omega (arith, number) in
     (search rules, (within.0, (within.1, (fitted, (fork, above)))))
 
 pub finish-settle-requires-clause-few : goal.finish-settle-requires-clause-few
 finish-settle-requires-clause-few g t c =
+    let i = c.loop-self.invariant in
     let code : c.self.inside.code.now ≡ c.loop-self.self.code = ap (λ (s : SchedulerState). s.code) c.self.view_is in
-    (at_fork c.args.self.now c.loop-self.self c.requires.fitted c.args.thread.now c.loop-self.thread c.run.new.self c.loop-self.invariant.number c.loop-self.invariant.leaves (subst (λ (x : CodeParts). Loaded (plain_code x) c.run.new.self) code c.run.ensures.loaded) c.run.ensures.number
-    (λ xs st. subst (λ (x : CodeParts). StandsFor (plain_code x) c.run.new.self xs) code (c.run.ensures.stands xs (subst (λ (x : CodeParts). StandsFor (plain_code x) c.loop-self.thread xs) (sym code) st)))
-    (subst (λ e. LeftByEvent c.run.new.self e) c.in-Fork.is c.run.ensures.left) (subst (λ (x : CodeParts). c.run.new.self.branches.numbers ≡ map (λ w. w.branch) (jobs_at (plain_code x) c.run.new.self)) code (c.run.ensures.branches c.in-Fork.is)) c.loop-self.invariant.jobs c.loop-self.invariant.job c.loop-self.forks (c.loop-self.invariant.in_job, c.loop-self.invariant.count)).few
+    let ran = came_to_fork code c.loop-self.thread c.run.new.self c.run.result c.in-Fork.is c.run.ensures.loaded c.run.ensures.number c.run.ensures.stands c.run.ensures.left c.run.ensures.branches in
+    (at_fork c.args.self.now c.loop-self.self c.requires.fitted c.args.thread.now c.loop-self.thread c.run.new.self i.number i.leaves ran i.jobs i.job c.loop-self.forks (i.in_job, i.count)).few
 
 pub finish-join-requires-clause-some : goal.finish-join-requires-clause-some
 finish-join-requires-clause-some g t c =
+    let i = c.loop-self.invariant in
     let code : c.self.inside.code.now ≡ c.loop-self.self.code = ap (λ (s : SchedulerState). s.code) c.self.view_is in
+    let ran = came_to_fork code c.loop-self.thread c.run.new.self c.run.result c.in-Fork.is c.run.ensures.loaded c.run.ensures.number c.run.ensures.stands c.run.ensures.left c.run.ensures.branches in
     subst (λ l. 0 < length l) (sym c.settle.ensures.branches)
-    (some_at c.args.self.now c.loop-self.self c.requires.fitted c.args.thread.now c.loop-self.thread c.run.new.self c.loop-self.invariant.number c.loop-self.invariant.leaves (subst (λ (x : CodeParts). Loaded (plain_code x) c.run.new.self) code c.run.ensures.loaded) c.run.ensures.number
-    (λ xs st. subst (λ (x : CodeParts). StandsFor (plain_code x) c.run.new.self xs) code (c.run.ensures.stands xs (subst (λ (x : CodeParts). StandsFor (plain_code x) c.loop-self.thread xs) (sym code) st)))
-    (subst (λ e. LeftByEvent c.run.new.self e) c.in-Fork.is c.run.ensures.left) (subst (λ (x : CodeParts). c.run.new.self.branches.numbers ≡ map (λ w. w.branch) (jobs_at (plain_code x) c.run.new.self)) code (c.run.ensures.branches c.in-Fork.is)) c.loop-self.invariant.jobs c.loop-self.invariant.job c.loop-self.forks (c.loop-self.invariant.in_job, c.loop-self.invariant.count))
+    (some_at c.args.self.now c.loop-self.self c.requires.fitted c.args.thread.now c.loop-self.thread c.run.new.self i.number i.leaves ran i.jobs i.job c.loop-self.forks (i.in_job, i.count))
 
 pub finish-join-requires-clause-few : goal.finish-join-requires-clause-few
 finish-join-requires-clause-few g t c =
+    let i = c.loop-self.invariant in
     let code : c.self.inside.code.now ≡ c.loop-self.self.code = ap (λ (s : SchedulerState). s.code) c.self.view_is in
+    let ran = came_to_fork code c.loop-self.thread c.run.new.self c.run.result c.in-Fork.is c.run.ensures.loaded c.run.ensures.number c.run.ensures.stands c.run.ensures.left c.run.ensures.branches in
     subst (λ l. length l ≤ 256) (sym c.settle.ensures.branches)
-    (at_fork c.args.self.now c.loop-self.self c.requires.fitted c.args.thread.now c.loop-self.thread c.run.new.self c.loop-self.invariant.number c.loop-self.invariant.leaves (subst (λ (x : CodeParts). Loaded (plain_code x) c.run.new.self) code c.run.ensures.loaded) c.run.ensures.number
-    (λ xs st. subst (λ (x : CodeParts). StandsFor (plain_code x) c.run.new.self xs) code (c.run.ensures.stands xs (subst (λ (x : CodeParts). StandsFor (plain_code x) c.loop-self.thread xs) (sym code) st)))
-    (subst (λ e. LeftByEvent c.run.new.self e) c.in-Fork.is c.run.ensures.left) (subst (λ (x : CodeParts). c.run.new.self.branches.numbers ≡ map (λ w. w.branch) (jobs_at (plain_code x) c.run.new.self)) code (c.run.ensures.branches c.in-Fork.is)) c.loop-self.invariant.jobs c.loop-self.invariant.job c.loop-self.forks (c.loop-self.invariant.in_job, c.loop-self.invariant.count)).few
+    (at_fork c.args.self.now c.loop-self.self c.requires.fitted c.args.thread.now c.loop-self.thread c.run.new.self i.number i.leaves ran i.jobs i.job c.loop-self.forks (i.in_job, i.count)).few
 
 pub finish-overflow_add-forks : goal.finish-overflow_add-forks
 finish-overflow_add-forks g t c =
+    let i = c.loop-self.invariant in
     let code : c.self.inside.code.now ≡ c.loop-self.self.code = ap (λ (s : SchedulerState). s.code) c.self.view_is in
-    let b = bound c.args.self.now c.loop-self.self c.requires.fitted c.args.thread.now c.loop-self.thread c.run.new.self c.loop-self.invariant.number c.loop-self.invariant.leaves (subst (λ (x : CodeParts). Loaded (plain_code x) c.run.new.self) code c.run.ensures.loaded) c.run.ensures.number
-    (λ xs st. subst (λ (x : CodeParts). StandsFor (plain_code x) c.run.new.self xs) code (c.run.ensures.stands xs (subst (λ (x : CodeParts). StandsFor (plain_code x) c.loop-self.thread xs) (sym code) st)))
-    (subst (λ e. LeftByEvent c.run.new.self e) c.in-Fork.is c.run.ensures.left) (subst (λ (x : CodeParts). c.run.new.self.branches.numbers ≡ map (λ w. w.branch) (jobs_at (plain_code x) c.run.new.self)) code (c.run.ensures.branches c.in-Fork.is)) c.loop-self.invariant.jobs c.loop-self.invariant.job c.loop-self.forks (c.loop-self.invariant.in_job, c.loop-self.invariant.count) c.loop-self.invariant.allowance in
+    let ran = came_to_fork code c.loop-self.thread c.run.new.self c.run.result c.in-Fork.is c.run.ensures.loaded c.run.ensures.number c.run.ensures.stands c.run.ensures.left c.run.ensures.branches in
+    let b = bound c.args.self.now c.loop-self.self c.requires.fitted c.args.thread.now c.loop-self.thread c.run.new.self i.number i.leaves ran i.jobs i.job c.loop-self.forks (i.in_job, i.count) i.allowance in
     let short = c.requires.loaded.short None in
     Fits-of_lt (fits_forks c.loop-self.forks (length (block_of (code_in c.args.self.now) c.args.thread.now.number).steps) c.args.thread.now.allowance b short c.requires.loaded.small)
 
 pub finish-loop-self-smaller : goal.finish-loop-self-smaller
 finish-loop-self-smaller g t c =
+    let i = c.loop-self.invariant in
     let code : c.self.inside.code.now ≡ c.loop-self.self.code = ap (λ (s : SchedulerState). s.code) c.self.view_is in
-    let b = bound c.args.self.now c.loop-self.self c.requires.fitted c.args.thread.now c.loop-self.thread c.run.new.self c.loop-self.invariant.number c.loop-self.invariant.leaves (subst (λ (x : CodeParts). Loaded (plain_code x) c.run.new.self) code c.run.ensures.loaded) c.run.ensures.number
-    (λ xs st. subst (λ (x : CodeParts). StandsFor (plain_code x) c.run.new.self xs) code (c.run.ensures.stands xs (subst (λ (x : CodeParts). StandsFor (plain_code x) c.loop-self.thread xs) (sym code) st)))
-    (subst (λ e. LeftByEvent c.run.new.self e) c.in-Fork.is c.run.ensures.left) (subst (λ (x : CodeParts). c.run.new.self.branches.numbers ≡ map (λ w. w.branch) (jobs_at (plain_code x) c.run.new.self)) code (c.run.ensures.branches c.in-Fork.is)) c.loop-self.invariant.jobs c.loop-self.invariant.job c.loop-self.forks (c.loop-self.invariant.in_job, c.loop-self.invariant.count) c.loop-self.invariant.allowance in
+    let ran = came_to_fork code c.loop-self.thread c.run.new.self c.run.result c.in-Fork.is c.run.ensures.loaded c.run.ensures.number c.run.ensures.stands c.run.ensures.left c.run.ensures.branches in
+    let b = bound c.args.self.now c.loop-self.self c.requires.fitted c.args.thread.now c.loop-self.thread c.run.new.self i.number i.leaves ran i.jobs i.job c.loop-self.forks (i.in_job, i.count) i.allowance in
     omega (arith, b)
 
 pub finish-loop-self-preserved : goal.finish-loop-self-preserved
 finish-loop-self-preserved g t c =
+    let i = c.loop-self.invariant in
     let code : c.self.inside.code.now ≡ c.loop-self.self.code = ap (λ (s : SchedulerState). s.code) c.self.view_is in
-    let number = c.join.ensures.number ∙ c.settle.ensures.number ∙ c.run.ensures.number ∙ c.loop-self.invariant.number in
-    let leaves = subst (λ n. KeepsBelow n n c.loop-self.self c.run_children.new.self) (c.run.ensures.number ∙ c.loop-self.invariant.number) c.run_children.ensures.leaves in
-    let now = next c.args.self.now c.loop-self.self c.requires.fitted c.args.thread.now c.loop-self.thread c.run.new.self c.loop-self.invariant.number c.loop-self.invariant.leaves (subst (λ (x : CodeParts). Loaded (plain_code x) c.run.new.self) code c.run.ensures.loaded) c.run.ensures.number
-    (λ xs st. subst (λ (x : CodeParts). StandsFor (plain_code x) c.run.new.self xs) code (c.run.ensures.stands xs (subst (λ (x : CodeParts). StandsFor (plain_code x) c.loop-self.thread xs) (sym code) st)))
-    (subst (λ e. LeftByEvent c.run.new.self e) c.in-Fork.is c.run.ensures.left) (subst (λ (x : CodeParts). c.run.new.self.branches.numbers ≡ map (λ w. w.branch) (jobs_at (plain_code x) c.run.new.self)) code (c.run.ensures.branches c.in-Fork.is)) c.loop-self.invariant.jobs c.loop-self.invariant.job c.loop-self.forks (c.loop-self.invariant.in_job, c.loop-self.invariant.count)
-    c.run_children.new.self c.run_children.ensures.leaves c.run_children.ensures.heard.0 c.run_children.ensures.heard.1 c.run_children.ensures.heard.2 c.settle.new.thread c.join.new.thread c.settle.ensures.number c.join.ensures.number
-    (λ xs st. c.settle.ensures.stands c.run_children.ensures.heard.0 xs c.run_children.ensures.heard.1 st)
-    (λ xs st. c.join.ensures.stands c.run_children.ensures.heard.0 xs (subst (λ l. HaveHeard c.run_children.new.self l c.run_children.ensures.heard.0) (sym c.settle.ensures.branches) c.run_children.ensures.heard.1) st) in
+    let ran = came_to_fork code c.loop-self.thread c.run.new.self c.run.result c.in-Fork.is c.run.ensures.loaded c.run.ensures.number c.run.ensures.stands c.run.ensures.left c.run.ensures.branches in
+    let number = c.join.ensures.number ∙ c.settle.ensures.number ∙ c.run.ensures.number ∙ i.number in
+    let leaves = subst (λ n. KeepsBelow n n c.loop-self.self c.run_children.new.self) (c.run.ensures.number ∙ i.number) c.run_children.ensures.leaves in
+    let heard = c.run_children.ensures.heard in
+    let goes : (jobs : List Job) (job : Job) (n : ℕ) → Counted (code_in c.args.self.now) c.loop-self.thread c.loop-self.self.mail jobs job n → Counted (code_in c.args.self.now) c.join.new.thread c.run_children.new.self.mail jobs job (n + 1) =
+    λ jobs job n w. next c.args.self.now c.loop-self.self c.requires.fitted c.args.thread.now c.loop-self.thread c.run.new.self i.number i.leaves ran jobs job n w
+    c.run_children.new.self c.run_children.ensures.leaves heard.0 heard.1 heard.2 c.settle.new.thread c.join.new.thread c.settle.ensures.number c.join.ensures.number (λ xs st. c.settle.ensures.stands heard.0 xs heard.1 st)
+    (λ xs st. c.join.ensures.stands heard.0 xs (subst (λ l. HaveHeard c.run_children.new.self l heard.0) (sym c.settle.ensures.branches) heard.1) st) in
+    let now = goes i.jobs i.job c.loop-self.forks (i.in_job, i.count) in
     record {
       loaded = c.join.ensures.loaded;
       number = number;
       running = c.join.ensures.running;
-      above = subst (QuietAbove c.run_children.new.self) (c.run.ensures.number ∙ c.loop-self.invariant.number) c.run_children.ensures.above;
-      leaves = leaves_then c.args.thread.now.number c.args.thread.now.number c.args.self.now c.loop-self.self c.run_children.new.self c.loop-self.invariant.leaves leaves;
-      jobs = c.loop-self.invariant.jobs;
-      job = c.loop-self.invariant.job;
+      above = subst (QuietAbove c.run_children.new.self) (c.run.ensures.number ∙ i.number) c.run_children.ensures.above;
+      leaves = leaves_then c.args.thread.now.number c.args.thread.now.number c.args.self.now c.loop-self.self c.run_children.new.self i.leaves leaves;
+      jobs = i.jobs;
+      job = i.job;
       in_job = now.0;
       count = now.1;
-      allowance = c.loop-self.invariant.allowance;
-      done = λ jobs job i.
-          let j = c.loop-self.invariant.done jobs job i in
-          (next c.args.self.now c.loop-self.self c.requires.fitted c.args.thread.now c.loop-self.thread c.run.new.self c.loop-self.invariant.number c.loop-self.invariant.leaves (subst (λ (x : CodeParts). Loaded (plain_code x) c.run.new.self) code c.run.ensures.loaded) c.run.ensures.number
-          (λ xs st. subst (λ (x : CodeParts). StandsFor (plain_code x) c.run.new.self xs) code (c.run.ensures.stands xs (subst (λ (x : CodeParts). StandsFor (plain_code x) c.loop-self.thread xs) (sym code) st)))
-          (subst (λ e. LeftByEvent c.run.new.self e) c.in-Fork.is c.run.ensures.left) (subst (λ (x : CodeParts). c.run.new.self.branches.numbers ≡ map (λ w. w.branch) (jobs_at (plain_code x) c.run.new.self)) code (c.run.ensures.branches c.in-Fork.is)) jobs job (length j.log.before) (j, refl)
-          c.run_children.new.self c.run_children.ensures.leaves c.run_children.ensures.heard.0 c.run_children.ensures.heard.1 c.run_children.ensures.heard.2 c.settle.new.thread c.join.new.thread c.settle.ensures.number c.join.ensures.number
-          (λ xs st. c.settle.ensures.stands c.run_children.ensures.heard.0 xs c.run_children.ensures.heard.1 st)
-          (λ xs st. c.join.ensures.stands c.run_children.ensures.heard.0 xs (subst (λ l. HaveHeard c.run_children.new.self l c.run_children.ensures.heard.0) (sym c.settle.ensures.branches) c.run_children.ensures.heard.1) st)).0;
+      allowance = i.allowance;
+      done = λ jobs job old. let j = i.done jobs job old in (goes jobs job (length j.log.before) (j, refl)).0;
     }
 
 pub finish-returns : goal.finish-returns
@@ -264,7 +259,7 @@ finish-returns g t c =
       done = λ jobs job i.
           let j = c.loop-self.invariant.done jobs job i in
           (job_runs (code_in c.args.self.now) c.loop-self.thread c.run.new.self c.loop-self.self.mail jobs job (length j.log.before) c.run.ensures.number
-          (λ xs st. subst (λ (x : CodeParts). StandsFor (plain_code x) c.run.new.self xs) (code ∙ here) (c.run.ensures.stands xs (subst (λ (x : CodeParts). StandsFor (plain_code x) c.loop-self.thread xs) (sym (code ∙ here)) st))) (j, refl)).0;
+          (stands_by (code ∙ here) c.loop-self.thread c.run.new.self c.run.ensures.stands) (j, refl)).0;
     }
 
 -- ---- each call does less

@@ -1,10 +1,10 @@
 use Rattle.std.proofs.Common.{refl, sym, subst}
 use Rattle.core_seats.specs.Waiting.{CanDescend}
-use Rattle.core_seats.proofs.BesideLemmas.{others_then, others_seated, round_others}
 use Rattle.core_seats.proofs.CallingLemmas.{stays_others}
 use Rattle.core_seats.proofs.DescendingLemmas.{kept_round}
 use Rattle.core_seats.proofs.GoingOn.{gathers_there}
-use Rattle.core_seats.proofs.RoundLemmas.{round_then}
+use Rattle.core_seats.proofs.RoundLemmas.{round_then, round_others}
+use Rattle.core_seats.proofs.ServingLemmas.{others_then, others_seated}
 use Rattle.core_seats.proofs.scheduler.Scheduler.await_fork.Goals as goal
 
 pub serve_fork-requires-clause-above : goal.serve_fork-requires-clause-above

@@ -1,8 +1,8 @@
 use Rattle.std.proofs.Common.{refl, sym, ◌∙◌, subst}
 use Rattle.core_seats.specs.Rounds.{IsSameRound}
-use Rattle.core_seats.proofs.ServingLemmas.{keeps_seated}
-use Rattle.core_seats.proofs.BesideLemmas.{others_same, others_then, others_seated, serving_others, branches_others, round_others, serving_gathering}
-use Rattle.core_seats.proofs.RoundLemmas.{round_same, round_then}
+use Rattle.core_seats.proofs.ServingLemmas.{keeps_seated, others_same, others_then, others_seated}
+use Rattle.core_seats.proofs.BesideLemmas.{branches_others, serving_gathering}
+use Rattle.core_seats.proofs.RoundLemmas.{round_same, round_then, round_others}
 use Rattle.core_seats.proofs.scheduler.Scheduler.await_replies.Goals as goal
 
 pub loop-init : goal.loop-init
@@ -26,7 +26,7 @@ gather_replies-requires-clause-gathering g c =
 pub loop-preserved : goal.loop-preserved
 loop-preserved g c = record {
   keeps = others_then c.args.self.now c.loop.self c.gather_replies.new.self c.loop.invariant.keeps
-      (others_then c.loop.self c.serve_sweep-mine.new.self c.gather_replies.new.self (serving_others c.loop.self c.serve_sweep-mine.new.self c.serve_sweep-mine.ensures.keeps)
+      (others_then c.loop.self c.serve_sweep-mine.new.self c.gather_replies.new.self c.serve_sweep-mine.ensures.keeps.others
       (branches_others c.serve_sweep-mine.new.self c.gather_replies.new.self c.args.thread.now.number c.requires.root c.gather_replies.ensures.moves));
   round = subst (IsSameRound c.args.round.now) (sym c.rest.ensures) (round_then c.args.round.now c.loop.round c.serve_sweep-mine.new.round c.loop.invariant.round c.serve_sweep-mine.ensures.round);
   gathering = λ pairs w. c.gather_replies.ensures.gathering c.if-gather_replies.false pairs (serving_gathering c.loop.self c.serve_sweep-mine.new.self c.args.thread.now c.requires.root c.serve_sweep-mine.ensures.keeps pairs (c.loop.invariant.gathering pairs w));
@@ -36,7 +36,7 @@ loop-preserved g c = record {
 pub returns-then-gather_replies : goal.returns-then-gather_replies
 returns-then-gather_replies g c = record {
   keeps = others_then c.args.self.now c.loop.self c.gather_replies.new.self c.loop.invariant.keeps
-      (others_then c.loop.self c.serve_sweep-mine.new.self c.gather_replies.new.self (serving_others c.loop.self c.serve_sweep-mine.new.self c.serve_sweep-mine.ensures.keeps)
+      (others_then c.loop.self c.serve_sweep-mine.new.self c.gather_replies.new.self c.serve_sweep-mine.ensures.keeps.others
       (branches_others c.serve_sweep-mine.new.self c.gather_replies.new.self c.args.thread.now.number c.requires.root c.gather_replies.ensures.moves));
   round = subst (IsSameRound c.args.round.now) (sym c.rise.ensures) (round_then c.args.round.now c.loop.round c.serve_sweep-mine.new.round c.loop.invariant.round c.serve_sweep-mine.ensures.round);
   all = λ pairs w. c.gather_replies.ensures.all c.if-gather_replies.true pairs (serving_gathering c.loop.self c.serve_sweep-mine.new.self c.args.thread.now c.requires.root c.serve_sweep-mine.ensures.keeps pairs (c.loop.invariant.gathering pairs w));

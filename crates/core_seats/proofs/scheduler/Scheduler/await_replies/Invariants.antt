@@ -2,7 +2,7 @@ use Rattle.std.proofs.Common.{◌≡◌, List}
 use Rattle.forec_kernel.specs.Engine.{Answered}
 use Rattle.core_seats.specs.Waiting.{IsGathering}
 use Rattle.core_seats.specs.Rounds.{IsSameRound}
-use Rattle.core_seats.specs.OnJob.{KeepsOthers}
+use Rattle.core_seats.specs.Serving.{KeepsOthers}
 use Rattle.core_seats.proofs.scheduler.Scheduler.await_replies.Given as goal
 
 abbrev pub invariant-loop : goal.invariant-loop

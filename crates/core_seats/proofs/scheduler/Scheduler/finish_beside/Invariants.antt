@@ -3,7 +3,8 @@ use Rattle.forec_kernel.specs.Engine.{Job}
 use Rattle.core_machine.specs.Threads.{Loaded, CanRun}
 use Rattle.core_seats.specs.Keeping.{code_in}
 use Rattle.core_seats.specs.Rounds.{IsSameRound}
-use Rattle.core_seats.specs.OnJob.{IsOnJob, KeepsOthers}
+use Rattle.core_seats.specs.OnJob.{IsOnJob}
+use Rattle.core_seats.specs.Serving.{KeepsOthers}
 use Rattle.core_seats.proofs.scheduler.Scheduler.finish_beside.Given as goal
 
 abbrev pub invariant-loop : goal.invariant-loop

@@ -1,15 +1,14 @@
-use Rattle.std.proofs.Common.{rules, ◌≡◌, ◌≤◌, ◌<◌, ◌+◌, ◌-◌, ◌*◌, ◌++◌, ◌∷◌, [], Some, None, List, length, slice_get, map, refl, sym, ap, ◌∙◌, subst, arith}
+use Rattle.std.proofs.Common.{rules, ◌≡◌, ◌≤◌, ◌<◌, ◌+◌, ◌-◌, ◌*◌, ◌++◌, ◌∷◌, [], Some, None, length, slice_get, map, refl, sym, ap, ◌∙◌, subst, arith}
 use Rattle.std.specs.Prelude.{slice_set}
 use Rattle.std.proofs.lemmas.Option.{slice_get_within}
 use Rattle.std.proofs.Math.Facts.{Fits-of_lt}
-use Rattle.forec_kernel.specs.Engine.{Exchange}
 use Rattle.thread_code.specs.declared.instruction.CodeParts.{CodeParts}
 use Rattle.thread_code.specs.Plain.{plain_code}
 use Rattle.thread_code.specs.Alone.{block_of}
 use Rattle.core_machine.specs.Threads.{Loaded, StandsFor, HasSettled, LeftByEvent}
 use Rattle.core_machine.specs.Forks.{jobs_at, with_replies}
 use Rattle.tick_jobs.proofs.Lists.{past_end}
-use Rattle.tick_jobs.proofs.Forks.{fits_forks, replied_by}
+use Rattle.tick_jobs.proofs.Forks.{fits_forks, replied_by, stands_by}
 use Rattle.one_core.specs.Seats.{Seated, seated_code, HasAllSeats, KeepsSeatsBelow}
 use Rattle.tick_jobs.specs.Told.{Book}
 use Rattle.one_core.specs.Called.{CanCall, BranchHasReplied, HasSettledReplies, BranchesHaveReplies}
@@ -128,7 +127,7 @@ serve_forks-loop-preserved g t c =
     let done = c.call_branches.ensures.called in
     let same = done.leaves.code ∙ i.leaves.code in
     let code : c.self.inside.code.now ≡ c.args.self.now.code = ap (λ (s : Seated). s.code) c.self.view_is ∙ same in
-    let stands : (xs : List Exchange) → StandsFor (seated_code c.args.self.now) c.join.new.thread xs → StandsFor (seated_code c.args.self.now) c.run.new.self xs = λ xs st. subst (λ (x : CodeParts). StandsFor (plain_code x) c.run.new.self xs) code (c.run.ensures.stands xs (subst (λ (x : CodeParts). StandsFor (plain_code x) c.join.new.thread xs) (sym code) st)) in
+    let stands = stands_by code c.join.new.thread c.run.new.self c.run.ensures.stands in
     let le : length c.loop.thread.branches.numbers ≤ length c.loop.thread.branches.numbers = omega arith in
     let all = have_heard c.loop.self c.call_branches.new.self c.loop.thread c.call_branches.new.thread (length c.loop.thread.branches.numbers) done le in
     let number = c.run.ensures.number ∙ c.join.ensures.number ∙ c.call_branches.ensures.number ∙ i.number in
@@ -152,7 +151,7 @@ serve_forks-returns-in_default g t c =
     let done = c.call_branches.ensures.called in
     let same = done.leaves.code ∙ i.leaves.code in
     let code : c.self.inside.code.now ≡ c.args.self.now.code = ap (λ (s : Seated). s.code) c.self.view_is ∙ same in
-    let stands : (xs : List Exchange) → StandsFor (seated_code c.args.self.now) c.join.new.thread xs → StandsFor (seated_code c.args.self.now) c.run.new.self xs = λ xs st. subst (λ (x : CodeParts). StandsFor (plain_code x) c.run.new.self xs) code (c.run.ensures.stands xs (subst (λ (x : CodeParts). StandsFor (plain_code x) c.join.new.thread xs) (sym code) st)) in
+    let stands = stands_by code c.join.new.thread c.run.new.self c.run.ensures.stands in
     let le : length c.loop.thread.branches.numbers ≤ length c.loop.thread.branches.numbers = omega arith in
     let all = have_heard c.loop.self c.call_branches.new.self c.loop.thread c.call_branches.new.thread (length c.loop.thread.branches.numbers) done le in
     let number = c.run.ensures.number ∙ c.join.ensures.number ∙ c.call_branches.ensures.number ∙ i.number in
@@ -176,7 +175,7 @@ serve_forks-returns-in_default g t c =
 pub finish-serve_forks-requires : goal.finish-serve_forks-requires
 finish-serve_forks-requires g t c κs within =
     let code : c.self.inside.code.now ≡ c.args.self.now.code = ap (λ (s : Seated). s.code) c.self.view_is in
-    let stands : (xs : List Exchange) → StandsFor (seated_code c.args.self.now) c.args.thread.now xs → StandsFor (seated_code c.args.self.now) c.run.new.self xs = λ xs st. subst (λ (x : CodeParts). StandsFor (plain_code x) c.run.new.self xs) code (c.run.ensures.stands xs (subst (λ (x : CodeParts). StandsFor (plain_code x) c.args.thread.now xs) (sym code) st)) in
+    let stands = stands_by code c.args.thread.now c.run.new.self c.run.ensures.stands in
     let loaded = subst (λ (x : CodeParts). Loaded (plain_code x) c.run.new.self) code c.run.ensures.loaded in
     let fork = subst (λ e. LeftByEvent c.run.new.self e) c.in-Fork.is c.run.ensures.left in
     let branches = subst (λ (x : CodeParts). c.run.new.self.branches.numbers ≡ map (λ w. w.branch) (jobs_at (plain_code x) c.run.new.self)) code (c.run.ensures.branches c.in-Fork.is) in
@@ -188,13 +187,13 @@ finish-serve_forks-requires g t c κs within =
 pub finish-returns-in-Fork-clause-done : goal.finish-returns-in-Fork-clause-done
 finish-returns-in-Fork-clause-done g t c =
     let code : c.self.inside.code.now ≡ c.args.self.now.code = ap (λ (s : Seated). s.code) c.self.view_is in
-    let stands : (xs : List Exchange) → StandsFor (seated_code c.args.self.now) c.args.thread.now xs → StandsFor (seated_code c.args.self.now) c.run.new.self xs = λ xs st. subst (λ (x : CodeParts). StandsFor (plain_code x) c.run.new.self xs) code (c.run.ensures.stands xs (subst (λ (x : CodeParts). StandsFor (plain_code x) c.args.thread.now xs) (sym code) st)) in
+    let stands = stands_by code c.args.thread.now c.run.new.self c.run.ensures.stands in
     stays_after c.args.self.now c.args.thread.now c.run.new.self c.run.ensures.number stands c.serve_forks.new.self c.serve_forks.new.thread c.serve_forks.ensures.done
 
 pub finish-returns-in_default : goal.finish-returns-in_default
 finish-returns-in_default g t c =
     let code : c.self.inside.code.now ≡ c.args.self.now.code = ap (λ (s : Seated). s.code) c.self.view_is in
-    let stands : (xs : List Exchange) → StandsFor (seated_code c.args.self.now) c.args.thread.now xs → StandsFor (seated_code c.args.self.now) c.run.new.self xs = λ xs st. subst (λ (x : CodeParts). StandsFor (plain_code x) c.run.new.self xs) code (c.run.ensures.stands xs (subst (λ (x : CodeParts). StandsFor (plain_code x) c.args.thread.now xs) (sym code) st)) in
+    let stands = stands_by code c.args.thread.now c.run.new.self c.run.ensures.stands in
     record {
       loaded = subst (λ (x : CodeParts). Loaded (plain_code x) c.run.new.self) code c.run.ensures.loaded;
       number = c.run.ensures.number;
