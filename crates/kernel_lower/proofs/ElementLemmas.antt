@@ -2,7 +2,7 @@
 use Rattle.std.proofs.Common.{ℕ, zero, suc, ◌+◌, ◌-◌, ◌<◌, ◌≡◌, ◌∙◌, sym, ap, refl, Some, List, [], ◌∷◌, ◌++◌, append_assoc, length, drop, get_or, arith}
 use Rattle.forec_tree.specs.declared.tree.Number.{Number}
 use Rattle.forec_tree.specs.Terms.{PlainGlobal}
-use Rattle.forec_tree.specs.Variables.{PlainVariable, elements_from}
+use Rattle.forec_tree.specs.Variables.{elements_from}
 use Rattle.text_kernel.specs.Bindings.{first_value, nth_value}
 use Rattle.kernel_lower.specs.declared.elements.Element.{Element}
 use Rattle.kernel_lower.specs.Elements.{plain_element, plain_elements}

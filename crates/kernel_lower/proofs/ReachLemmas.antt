@@ -1,6 +1,5 @@
 -- Sums along chains of calls, computed in an order in which each function stands after those that it calls.
-use Rattle.std.proofs.Common.{ℕ, zero, suc, ◌+◌, ◌-◌, ◌^◌, ◌<◌, ◌≤◌, ◌≡◌, ◌∙◌, ◌==◌, min, max, sym, ap, refl, true, false, cond, List, [], ◌∷◌, ◌++◌, length, set, get_or, arith, get_or-set_same, get_or-set_other}
-use Rattle.std.proofs.lemmas.Bool.{eqb-true}
+use Rattle.std.proofs.Common.{ℕ, zero, suc, ◌+◌, ◌-◌, ◌^◌, ◌<◌, ◌≤◌, ◌≡◌, ◌∙◌, ◌==◌, min, max, sym, ap, refl, true, false, cond, List, [], ◌∷◌, length, arith}
 use Rattle.std.proofs.lemmas.Bool.Decides.{nat_tests}
 use Rattle.std.specs.declared.vec.Vec.{Vec}
 use Rattle.std.specs.declared.alloc.Global.{Global}
@@ -8,24 +7,9 @@ use Rattle.forec_tree.specs.Faults.{is_in, Leads}
 use Rattle.forec_kernel.specs.WellFormed.{greatest, count_up}
 use Rattle.loop_check.specs.Graph.{IsOrder, callees}
 use Rattle.loop_check.proofs.IndexLemmas.{split}
-use Rattle.loop_check.proofs.Ordered.{other_id}
-use Rattle.forec_check.specs.Table.{Settles, put_entry}
+use Rattle.forec_check.specs.Table.{Settles}
 use Rattle.forec_check.proofs.TableLemmas.{settles_by}
 use Rattle.kernel_lower.specs.Reach.{value_at, chain_step, chain_value}
-
-pub value_push : (xs : List ℕ) (k : ℕ) → value_at (xs ++ 0 ∷ []) k ≡ value_at xs k
-value_push [] zero = refl
-value_push [] (suc k) = refl
-value_push (x ∷ xs) zero = refl
-value_push (x ∷ xs) (suc k) = value_push xs k
-
-pub value_set : (xs : List ℕ) (id h v : ℕ) → id < length xs → value_at (set xs id v) h ≡ put_entry id h v (value_at xs h)
-value_set xs id h v l =
-    split (id == h)
-    (λ e.
-    let q : id ≡ h = eqb-true id h e in
-    ap (λ n. get_or (set xs id v) n 0) (sym q) ∙ get_or-set_same xs id v 0 l ∙ sym (ap (λ b. cond b v (value_at xs h)) e))
-    (λ e. get_or-set_other xs id h v 0 (other_id id h e) ∙ sym (ap (λ b. cond b v (value_at xs h)) e))
 
 pub no_value : (h : ℕ) → value_at [] h ≡ 0
 no_value zero = refl

@@ -5,14 +5,14 @@ ghost use Rattle.forec_tree.specs.Faults.{is_in, Leads};
 ghost use Rattle.forec_kernel.specs.Plain as kernel;
 ghost use Rattle.forec_kernel.specs.WellFormed as of;
 ghost use Rattle.loop_check.specs.Graph.{callees, FunctionsCall};
-ghost use Rattle.forec_check.specs.Table.{put_entry, Settles};
+ghost use Rattle.forec_check.specs.Table.{Settles};
 ghost use Rattle.kernel_lower.specs.Reach.{has, users_by, combine_by, pars_by, combine_at, value_at, chain_step, chain_value, list_items};
 
 use crate::pars::pars;
 use forec_base::OutOfMemory;
 use forec_kernel::{Statement, Variable};
 use kernel_calls::statement_calls;
-use loop_check::order;
+use loop_check::{order, put};
 use std::alloc::Global;
 use text_sizes::add;
 
@@ -108,10 +108,7 @@ pub fn body_calls(alloc: Global, bodies: &[Statement]) -> Result<Vec<Vec<u32>>, 
 fn value(table: &[u64], function: u32) -> u64
     ensures { result ≡ value_at table.now function }
 {
-    match table.get(function as usize) {
-        None => 0,
-        Some(known) => *known,
-    }
+    loop_check::value_at(table, function, 0)
 }
 
 /// The greatest value of some functions.
@@ -123,17 +120,6 @@ pub fn greatest(table: &[u64], functions: &[u32]) -> u64
         most = most.max(value(table, *function));
     }
     most
-}
-
-fn put(table: &mut Vec<u64>, id: u32, known: u64) -> Result<(), OutOfMemory>
-    ensures { OnOk result ((h : ℕ) → value_at table.new.items h ≡ put_entry id h known (value_at table.old.items h)) }
-{
-    let place = id as usize;
-    'room: while table.len() <= place {
-        table.push(0)?;
-    }
-    table[place] = known;
-    Ok(())
 }
 
 fn called(lists: &[Vec<u32>], function: u32) -> &[u32]
@@ -159,7 +145,7 @@ fn sums(
     for f in order {
         let below = greatest(&table, called(lists, *f));
         let known = add(value(own, *f), below);
-        put(&mut table, *f, known)?;
+        put(&mut table, *f, known, 0)?;
     }
     Ok(table)
 }

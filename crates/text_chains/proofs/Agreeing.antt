@@ -1,38 +1,19 @@
 -- What a function brings depends on the functions that it calls or starts alone.
-use Rattle.std.proofs.Common.{ℕ, zero, suc, ◌+◌, ◌<◌, ◌≡◌, ◌∙◌, ◌==◌, sym, ap, refl, Bool, true, false, cond, not, Option, Some, None, List, [], ◌∷◌, ◌++◌, length, set, get_or, arith, get_or-set_same, get_or-set_other}
-use Rattle.std.proofs.lemmas.Bool.{eqb-true}
+use Rattle.std.proofs.Common.{ℕ, zero, suc, ◌+◌, ◌≡◌, ◌∙◌, ap, refl, Bool, true, false, cond, Option, Some, None, List, [], ◌∷◌, ◌++◌}
 use Rattle.forec_tree.specs.Terms.{count_terms, Statement, Declare, Nothing, Group, Assign, Invoke, If, While, For, Pause, Par, Abort, Return, Statements, no_statements, more_statements, Perhaps, absent, present, Branches, no_branches, by_call, by_group, Text, PlainFunction}
-use Rattle.forec_tree.specs.Rules.{is_none}
-use Rattle.forec_tree.specs.Pauses.{within, find_function, function_callees, callees_of, started_names, all_started, perhaps_started, branches_started}
+use Rattle.forec_tree.specs.Pauses.{function_callees, callees_of, started_names, all_started, perhaps_started, branches_started}
 use Rattle.forec_tree.specs.Faults.{is_in, Leads}
 use Rattle.forec_tree.proofs.Agrees.{in_left, in_right, in_head, in_tail}
 use Rattle.loop_check.specs.Graph.{IsOrder}
-use Rattle.loop_check.specs.Known.{Read, started_in, is_function, list_at}
-use Rattle.loop_check.proofs.IndexLemmas.{split}
-use Rattle.loop_check.proofs.Ordered.{other_id}
-use Rattle.loop_check.proofs.Reading.{leads_same}
-use Rattle.forec_check.specs.Table.{Settles, put_entry}
-use Rattle.forec_check.proofs.TableLemmas.{settles_by}
+use Rattle.loop_check.specs.Known.{Read, started_in}
+use Rattle.forec_check.specs.Table.{Settles}
+use Rattle.forec_check.proofs.TableLemmas.{started_settles}
 use Rattle.text_chains.specs.declared.tally.Tally.{Tally}
 use Rattle.text_chains.specs.Tallies as of
 use Rattle.text_chains.proofs.Sums.{both}
 use Rattle.text_chains.specs.Tallies.{no_tally, both_tallies, tally_at, tally_step, tally_value, hides_after, hides_after_perhaps, hides_params}
 
 -- ---- tables
-
-pub tally_push : (xs : List Tally) (k : ℕ) → tally_at (xs ++ no_tally ∷ []) k ≡ tally_at xs k
-tally_push [] zero = refl
-tally_push [] (suc k) = refl
-tally_push (x ∷ xs) zero = refl
-tally_push (x ∷ xs) (suc k) = tally_push xs k
-
-pub tally_set : (xs : List Tally) (id h : ℕ) (v : Tally) → id < length xs → tally_at (set xs id v) h ≡ put_entry id h v (tally_at xs h)
-tally_set xs id h v l =
-    split (id == h)
-    (λ e.
-    let q : id ≡ h = eqb-true id h e in
-    ap (λ n. get_or (set xs id v) n no_tally) (sym q) ∙ get_or-set_same xs id v no_tally l ∙ sym (ap (λ b. cond b v (tally_at xs h)) e))
-    (λ e. get_or-set_other xs id h v no_tally (other_id id h e) ∙ sym (ap (λ b. cond b v (tally_at xs h)) e))
 
 pub tally_unknown : (h : ℕ) → tally_at [] h ≡ no_tally
 tally_unknown zero = refl
@@ -103,24 +84,8 @@ module _ (i : ℕ) (array : Bool) (value : ℕ → ℕ) (worth : ℕ) (a b : ℕ
   body_same None w = refl
   body_same (Some f) w = all_same (hides_params i false f.params) f.body w
 
-no_function : (i : ℕ) (array : Bool) (value : ℕ → ℕ) (worth : ℕ) (text : Text) (a : ℕ → Tally) (g : ℕ) → is_function text g ≡ false → tally_step i array value worth text a g ≡ no_tally
-no_function i array value worth text a g h = pick (find_function g text) h
-  where
-    pick : (f : Option PlainFunction) → not (is_none f) ≡ false → of.body_tally i array value worth a f ≡ no_tally
-    pick None h = refl
-    pick (Some f) h = absurd (let q : true ≡ false = h in cc)
-
-started_list : (f : Option PlainFunction) → list_at started_in f ≡ function_callees f
-started_list None = refl
-started_list (Some f) = refl
-
 pub tallies_settle : (i : ℕ) (array : Bool) (value : ℕ → ℕ) (worth : ℕ) (text : Text) (functions order : List ℕ) (calls : ℕ → List ℕ) → Read started_in text functions calls → IsOrder functions calls order →
     ((f : ℕ) → Leads (callees_of text) f f → ⊥) → Settles no_tally (tally_step i array value worth text) (tally_value i array value worth text) order
 unfolding tally_value
 tallies_settle i array value worth text functions order calls r o free =
-    let lists = λ (f : ℕ). r.lists f ∙ started_list (find_function f text) in
-    let short = o.short in
-    let few = r.few in
-    settles_by no_tally (tally_step i array value worth text) (length text) functions order calls o
-    (record { agrees = λ f a b h. body_same i array value worth a b (find_function f text) (λ g e. h g (ap (is_in g) (lists f) ∙ e)) })
-    (λ g h a. no_function i array value worth text a g (sym (r.stands g) ∙ h)) (λ g l. free g (leads_same calls (callees_of text) lists l)) (omega (arith, short, few))
+    started_settles no_tally (of.body_tally i array value worth) (λ a. refl) (λ a b f w. body_same i array value worth a b f w) text functions order calls r o free

@@ -2,12 +2,11 @@
 //! function, after those that it calls or starts. All elements of an array have the same function, and
 //! are named by the same threads.
 
-ghost use Rattle.std.specs.Prelude.{◌≡◌, ◌-◌, ◌^◌, ℕ, min, max, Some, None, IfOk, OnOk};
+ghost use Rattle.std.specs.Prelude.{◌≡◌, ◌-◌, ◌^◌, ℕ, min, max, Some, None, IfOk};
 ghost use Rattle.forec_tree.specs.Plain.{plain_global};
 ghost use Rattle.forec_tree.specs.Faults.{Leads};
 ghost use Rattle.forec_tree.specs.Pauses.{callees_of};
 ghost use Rattle.loop_check.specs.Views.{indexed_text};
-ghost use Rattle.forec_check.specs.Table.{put_entry, Settles};
 ghost use Rattle.forec_check.specs.Faultless.{Faultless};
 ghost use Rattle.text_kernel.specs.Bindings.{number_among, is_int_function};
 ghost use Rattle.text_kernel.specs.Items.{globals_of, variable_items};
@@ -22,7 +21,7 @@ use crate::terms::hides_params;
 use body_lower::Globals;
 use forec_base::{Labels, OutOfMemory};
 use forec_tree::Global as Declared;
-use loop_check::{find_function, order, read_calls};
+use loop_check::{find_function, order, put, read_calls};
 use std::alloc::Global;
 
 /// What the text of the function of a number brings.
@@ -38,17 +37,6 @@ fn function_tally(w: &Weights<'_>, table: &[Tally], id: u32) -> Tally
     }
 }
 
-fn put(table: &mut Vec<Tally>, id: u32, known: Tally) -> Result<(), OutOfMemory>
-    ensures { OnOk result ((h : ℕ) → of.tally_at table.new.items h ≡ put_entry id h known (of.tally_at table.old.items h)) }
-{
-    let place = id as usize;
-    'room: while table.len() <= place {
-        table.push(nothing())?;
-    }
-    table[place] = known;
-    Ok(())
-}
-
 /// What each function brings, each after those that it calls or starts.
 fn table_of(alloc: Global, w: &Weights<'_>, order: &[u32]) -> Result<Vec<Tally>, OutOfMemory>
     requires { SettlesTallies (indexed_text w.now.globals.now.index) order.now }
@@ -57,7 +45,7 @@ fn table_of(alloc: Global, w: &Weights<'_>, order: &[u32]) -> Result<Vec<Tally>,
     let mut table = Vec::new(alloc);
     for f in order {
         let known = function_tally(w, &table, *f);
-        put(&mut table, *f, known)?;
+        put(&mut table, *f, known, nothing())?;
     }
     Ok(table)
 }

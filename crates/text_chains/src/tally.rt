@@ -5,6 +5,7 @@ ghost use Rattle.text_chains.specs.Tallies as of;
 ghost use Rattle.text_chains.specs.Views.{value_by};
 
 use body_lower::Globals;
+use loop_check::value_at;
 use text_sizes::add;
 
 /// What a text brings: whether it, or a thread below it, names a variable; the most words of an int
@@ -106,20 +107,14 @@ pub fn started(params: u64, a: Tally) -> Tally
 pub fn known_of(table: &[Tally], id: u32) -> Tally
     ensures { result ≡ of.tally_at table.now id }
 {
-    match table.get(id as usize) {
-        None => nothing(),
-        Some(known) => *known,
-    }
+    value_at(table, id, nothing())
 }
 
 /// The words of the int function of a name, and of all that it calls.
 pub fn value(w: &Weights<'_>, id: u32) -> u64
     ensures { result ≡ value_by w.now id }
 {
-    match w.values.get(w.globals.function(id) as usize) {
-        None => 0,
-        Some(known) => *known,
-    }
+    value_at(w.values, w.globals.function(id), 0)
 }
 
 /// Whether a name is the variable's, where no local hides it.

@@ -16,4 +16,4 @@ loop-f-preserved c =
     (c.add-known.ensures
     ∙ (ap (λ a. min (a + c.greatest-below.result) (2 ^ 64 - 1)) c.value.ensures
     ∙ (ap (λ a. min (value_at c.args.own.now f + a) (2 ^ 64 - 1))
-    (c.greatest-below.ensures ∙ (ap (λ t. greatest (value_at t) c.called.result.now) c.deref.ensures.value ∙ ap (greatest table) c.called.ensures)) ∙ step))) c.in_ok-put.ensures
+    (c.greatest-below.ensures ∙ (ap (λ t. greatest (value_at t) c.called.result.now) c.deref.ensures.value ∙ ap (greatest table) c.called.ensures)) ∙ step))) c.in_ok-put.ensures.ok

@@ -1,4 +1,5 @@
-use Rattle.std.proofs.Common.{◌∙◌, ap, get_or}
+use Rattle.std.proofs.Common.{ℕ, ◌≡◌, ◌∙◌, ap, subst, get_or}
+use Rattle.loop_check.specs.Numbered.{put_entry}
 use Rattle.loop_check.specs.Views.{indexed_text}
 use Rattle.forec_check.proofs.TableLemmas.{agrees_next, none_agree, all_agree}
 use Rattle.text_chains.specs.Tallies.{no_tally, tally_at, tally_step, tally_value}
@@ -19,7 +20,9 @@ loop-f-preserved c =
     let settles = c.requires w.variable w.array (value_by w) w.worth in
     let step = settles.next k (tally_at c.loop-f.table.items) c.loop-f-test.true c.loop-f.invariant in
     agrees_next no_tally (tally_value w.variable w.array (value_by w) w.worth text) c.args.order.now k (tally_at c.loop-f.table.items) (tally_at c.put.new.table.items) c.function_tally-known.result c.loop-f-test.true c.loop-f.invariant
-    (c.function_tally-known.ensures ∙ ap (λ t. tally_step w.variable w.array (value_by w) w.worth text (tally_at t) (get_or c.args.order.now k 0)) c.deref.ensures.value ∙ step) c.in_ok-put.ensures
+    (c.function_tally-known.ensures ∙ ap (λ t. tally_step w.variable w.array (value_by w) w.worth text (tally_at t) (get_or c.args.order.now k 0)) c.deref.ensures.value ∙ step)
+    (subst (λ d. (h : ℕ) → get_or c.put.new.table.items h d ≡ put_entry (get_or c.args.order.now k 0) h c.function_tally-known.result (get_or c.loop-f.table.items h d))
+    c.nothing.ensures c.in_ok-put.ensures.ok)
 
 pub returns : goal.returns
 returns c =

@@ -1,9 +1,0 @@
-use Rattle.std.proofs.Common.{ℕ, ◌≡◌, ◌+◌, ◌-◌, length}
-use Rattle.kernel_lower.specs.Reach.{value_at}
-use Rattle.kernel_lower.proofs.reach.put.Given as goal
-
-abbrev pub invariant-room : goal.invariant-room
-invariant-room l = (k : ℕ) → value_at l.table.items k ≡ value_at l.initial.table.items k
-
-abbrev pub decreases-room : goal.decreases-room
-decreases-room l = (l.place + 1) - length l.table.items
