@@ -1,6 +1,6 @@
 -- The numbers counted on the text are those of the kernel: the words of threads exactly, and how deep they are at least.
 use Rattle.std.proofs.Common.{ℕ, zero, suc, ◌+◌, ◌≤◌, ◌≡◌, ◌∙◌, max, sym, ap, subst, refl, Option, Some, None, List, [], ◌∷◌, ◌++◌, arith}
-use Rattle.forec_tree.specs.Terms.{Terms, no_terms, more_terms, count_terms, Statement, Declare, Nothing, Group, Assign, Invoke, If, While, For, Pause, Par, Abort, Return, Statements, no_statements, more_statements, Perhaps, absent, present, Branches, no_branches, by_call, by_group, Text, PlainFunction}
+use Rattle.forec_tree.specs.Terms.{count_terms, Statement, Declare, Nothing, Group, Assign, Invoke, If, While, For, Pause, Par, Abort, Return, Statements, no_statements, more_statements, Perhaps, absent, present, Branches, no_branches, by_call, by_group, Text, PlainFunction}
 use Rattle.forec_tree.specs.Pauses.{within, find_function}
 use Rattle.forec_kernel.specs.Terms.{Stmt, Stmts, no_stmts, more_stmts}
 use Rattle.forec_kernel.specs.WellFormed.{stmt_depth, stmts_depth}
@@ -12,7 +12,7 @@ use Rattle.text_kernel.specs.Lowering.{sequence, ends_with, set_params, scope_af
 use Rattle.text_sizes.specs.TermCounts.{slots_all, statement_count}
 use Rattle.text_sizes.specs.Extents.{exact}
 use Rattle.text_sizes.specs.Spans.{sequence_levels, levels, levels_all, levels_perhaps, block_levels, most, most_all, most_perhaps, most_branches, words_by, levels_by, no_span, span_by, span_step}
-use Rattle.text_sizes.proofs.TermCountLemmas.{stmts_length}
+use Rattle.text_sizes.proofs.TermCountLemmas.{stmts_length, ends_length, sets_length, length_is}
 use Rattle.text_sizes.proofs.Sized.{list_slots}
 
 -- ---- sequences
@@ -27,17 +27,9 @@ sequence_deep (more_stmts a (more_stmts b rest)) zero m l h = absurd (omega (ari
 sequence_deep (more_stmts a (more_stmts b rest)) (suc zero) m l h = absurd (omega (arith, l))
 sequence_deep (more_stmts a (more_stmts b rest)) (suc (suc n)) m l h = omega (arith, h)
 
-ends_long : (list : Stmts) (a : Stmt) → stmts_length (ends_with list a) ≡ suc (stmts_length list)
-ends_long no_stmts a = refl
-ends_long (more_stmts b rest) a = ap suc (ends_long rest a)
-
 ends_deep : (list : Stmts) (a : Stmt) → stmt_depth a ≤ stmts_depth (ends_with list a)
 ends_deep no_stmts a = omega arith
 ends_deep (more_stmts b rest) a = let e = ends_deep rest a in omega (arith, e)
-
-sets_long : (text : Text) (s : List Slot) (slot : ℕ) (es : Terms) → stmts_length (set_params text s slot es) ≡ count_terms es
-sets_long text s slot no_terms = refl
-sets_long text s slot (more_terms e rest) = ap suc (sets_long text s (suc slot) rest)
 
 after_deep : (start : Perhaps) (a loop : Stmt) (m n : ℕ) → m ≤ stmt_depth a → n ≤ stmt_depth loop → (start ≡ absent → m ≡ 0) → max m n ≤ stmt_depth (after_start start a loop)
 after_deep absent a loop m n h g z = let e = z refl in omega (arith, e, g)
@@ -53,14 +45,10 @@ none_at called a e = ap (levels_perhaps called) e
 -- ---- levels
 
 module _ (text : Text) (called : ℕ → Inlined) (known : ℕ → ℕ) (right : (id first t : ℕ) (n : NextNumbers) → known id ≤ stmt_depth (called id first t n).stmt) where
-  list_long : (t : ℕ) (s : List Slot) (n : NextNumbers) (a : Statements) → stmts_length (lower_list text called t s n a).list ≡ statement_count a
-  list_long t s n no_statements = refl
-  list_long t s n (more_statements a rest) = ap suc (list_long t (scope_after text s n.slot a) (lower_statement text called t s n a).next rest)
-
   mutual
     pub deep_is : (t : ℕ) (s : List Slot) (n : NextNumbers) (a : Statement) → levels known a ≤ stmt_depth (lower_statement text called t s n a).stmt
     deep_is t s n (Nothing at) = omega arith
-    deep_is t s n (Group at body) = sequence_deep (lower_list text called t s n body).list (statement_count body) (levels_all known body) (list_long t s n body) (all_deep t s n body)
+    deep_is t s n (Group at body) = sequence_deep (lower_list text called t s n body).list (statement_count body) (levels_all known body) (length_is text called t s n body) (all_deep t s n body)
     deep_is t s n (Declare at locals) = omega arith
     deep_is t s n (Assign at target op value) = omega arith
     deep_is t s n (Invoke at name args) =
@@ -69,7 +57,7 @@ module _ (text : Text) (called : ℕ → Inlined) (known : ℕ → ℕ) (right :
         let sets = set_params text s n.slot args in
         let e = ends_deep sets l.stmt in
         let r = right name.id n.slot t from in
-        sequence_deep (ends_with sets l.stmt) (suc (count_terms args)) (known name.id) (ends_long sets l.stmt ∙ ap suc (sets_long text s n.slot args)) (omega (arith, e, r))
+        sequence_deep (ends_with sets l.stmt) (suc (count_terms args)) (known name.id) (ends_length sets l.stmt ∙ ap suc (sets_length text s n.slot args)) (omega (arith, e, r))
     deep_is t s n (If at test a b) =
         let l = lower_statement text called t s n a in
         let e = deep_is t s n a in
@@ -87,7 +75,7 @@ module _ (text : Text) (called : ℕ → Inlined) (known : ℕ → ℕ) (right :
     deep_is t s n (Pause at) = omega arith
     deep_is t s n (Par at bs) = omega arith
     deep_is t s n (Abort at weak immediate test body) =
-        let e = sequence_deep (lower_list text called t s n body).list (statement_count body) (levels_all known body) (list_long t s n body) (all_deep t s n body) in omega (arith, e)
+        let e = sequence_deep (lower_list text called t s n body).list (statement_count body) (levels_all known body) (length_is text called t s n body) (all_deep t s n body) in omega (arith, e)
     deep_is t s n (Return at value) = omega arith
 
     all_deep : (t : ℕ) (s : List Slot) (n : NextNumbers) (a : Statements) → levels_all known a ≤ stmts_depth (lower_list text called t s n a).list
@@ -103,7 +91,7 @@ module _ (text : Text) (called : ℕ → Inlined) (known : ℕ → ℕ) (right :
     perhaps_deep t s n (present a) = deep_is t s n a
 
   pub list_is : (t : ℕ) (s : List Slot) (n : NextNumbers) (a : Statements) → block_levels known a ≤ stmt_depth (sequence (lower_list text called t s n a).list)
-  list_is t s n a = sequence_deep (lower_list text called t s n a).list (statement_count a) (levels_all known a) (list_long t s n a) (all_deep t s n a)
+  list_is t s n a = sequence_deep (lower_list text called t s n a).list (statement_count a) (levels_all known a) (length_is text called t s n a) (all_deep t s n a)
 
 -- ---- a measure of the threads below
 
