@@ -1,10 +1,10 @@
 -- Numbers of one to three digits, and lists of them.
-use Rattle.std.proofs.Common.{◌≡◌, ℕ, ◌+◌, ◌<◌, ◌≤◌, ◌^◌, ◌==◌, nat_lt, is_none, Bool, true, false, not, ◌&&◌, cond, Option, None, Some, option_map, unwrap_or, position, Result, Ok, List, [], ◌∷◌, length, map, All, refl, ap, ◌∙◌, arith, rules}
+use Rattle.std.proofs.Common.{◌≡◌, ℕ, ◌+◌, ◌<◌, ◌≤◌, ◌^◌, ◌==◌, nat_lt, is_none, Bool, true, false, not, cond, Option, None, Some, option_map, unwrap_or, position, Result, Ok, List, [], ◌∷◌, length, map, All, refl, ap, ◌∙◌, arith, rules}
 use Rattle.std.specs.Char.{is_ascii_digit}
 use Rattle.std.specs.List.{list_all, position_or_len}
 use Rattle.std.specs.Result.{result_ok}
 use Rattle.std.specs.Str.Parse.{digits_value, ParsesUnsigned}
-use Rattle.std.proofs.lemmas.Bool.{ltb-true}
+use Rattle.std.proofs.lemmas.Bool.{not-false, ltb-true, and_parts}
 use Rattle.std.proofs.lemmas.List.{length-map}
 use Rattle.std.proofs.lemmas.List.Sums.{fails_before_first}
 use Rattle.std.proofs.lemmas.Str.Parse.{IsNumeralModel, IsDigitsTest, numerals_by_value, parse_gives, digits_value_short}
@@ -19,22 +19,14 @@ tells = search rules
 own : IsNumeralModel (λ ds. list_all is_ascii_digit ds ≡ true) (digits_value 10)
 own = numerals_by_value _ tells
 
-first_of_and : (a b : Bool) → (a && b) ≡ true → a ≡ true
-first_of_and true b both = refl
-first_of_and false b both = both
-
-second_of_and : (a b : Bool) → (a && b) ≡ true → b ≡ true
-second_of_and true b both = both
-second_of_and false b both = cc
-
 parses : {E : Type 0} (bs : List ℕ) (r : Result ℕ E) → ParsesUnsigned 32 10 bs r → is_number_in bs ≡ true → r ≡ Ok (digits_value 10 bs)
 parses bs r h number =
-    let some : 0 < length bs = ltb-true _ _ (first_of_and (nat_lt 0 (length bs)) _ number) in
-    let rest : (nat_lt (length bs) 4 && list_all is_ascii_digit bs) ≡ true = second_of_and (nat_lt 0 (length bs)) _ number in
-    let few : length bs < 4 = ltb-true _ _ (first_of_and (nat_lt (length bs) 4) _ rest) in
-    let digits : list_all is_ascii_digit bs ≡ true = second_of_and (nat_lt (length bs) 4) _ rest in
-    let small : digits_value 10 bs < 10 ^ 3 = digits_value_short own bs 3 digits (omega arith) in
-    parse_gives own 32 bs r h digits some (omega arith)
+    let all = and_parts (nat_lt 0 (length bs)) _ number in
+    let rest = and_parts (nat_lt (length bs) 4) (list_all is_ascii_digit bs) all.1 in
+    let some : 0 < length bs = ltb-true _ _ all.0 in
+    let few : length bs < 4 = ltb-true _ _ rest.0 in
+    let small : digits_value 10 bs < 10 ^ 3 = digits_value_short own bs 3 rest.1 (omega arith) in
+    parse_gives own 32 bs r h rest.1 some (omega arith)
 
 pub number_is : {E : Type 0} (bs : List ℕ) (r : Result ℕ E) (o : Option ℕ) → ParsesUnsigned 32 10 bs r → is_number_in bs ≡ true → o ≡ result_ok r → o ≡ piece_number bs
 number_is bs r o h number is = rw number (is ∙ ap result_ok (parses bs r h number))
@@ -74,14 +66,10 @@ pub cores_found : (cores : ℕ) (numbers : List (Option ℕ)) → position is_no
 cores_found cores numbers none =
     rw (cores_within cores numbers (not_found is_none numbers none), length-map numbers value_of) refl
 
-not_false : (b : Bool) → not b ≡ false → b ≡ true
-not_false true e = refl
-not_false false e = cc
-
 pub below : (cores : ℕ) (places : List ℕ) → position (λ core. not (nat_lt core cores)) places ≡ None → All (λ core. core < cores) places
 below cores places none k d here =
     let all : length places ≤ position_or_len (λ core. not (nat_lt core cores)) places = not_found (λ core. not (nat_lt core cores)) places none in
-    ltb-true _ _ (not_false _ (fails_before_first (λ core. not (nat_lt core cores)) places k d (omega arith)))
+    ltb-true _ _ (not-false _ (fails_before_first (λ core. not (nat_lt core cores)) places k d (omega arith)))
 
 same_test : (n : ℕ) → (n == n) ≡ true
 same_test n = grind arith

@@ -26,7 +26,7 @@ functions_terms text names (f ∷ rest) =
     let n : NextNumbers = record { slot = length f.params; thread = 1; par = 0 } in
     let s = params_at 0 f.params in
     let one =
-    sequence_as (kernels.lowered_function_body text names f).list _ _ (length_is text nothing (own_at []) right 0 s n f.body) (all_is text nothing (own_at []) right 0 s n f.body) in
+    sequence_as (kernels.lowered_function_body text names f).list _ _ (length_is text nothing 0 s n f.body) (all_is text nothing (own_at []) right 0 s n f.body) in
     let rest_is = functions_terms text names rest in
     omega (arith, one, rest_is)
 

@@ -1,5 +1,5 @@
 -- The table of extents tells how many terms the translation has, up to the cap.
-use Rattle.std.proofs.Common.{ℕ, zero, suc, ◌-◌, ◌^◌, ◌≡◌, ◌∙◌, min, ap, refl, true, Option, Some, None, List, [], ◌∷◌, ◌++◌, length, arith}
+use Rattle.std.proofs.Common.{ℕ, zero, suc, ◌-◌, ◌^◌, ◌≡◌, ◌∙◌, min, ap, refl, true, Option, Some, None, List, [], length}
 use Rattle.forec_tree.specs.Terms.{Text, PlainFunction}
 use Rattle.forec_tree.specs.Pauses.{within, find_function, function_callees, callees_of}
 use Rattle.forec_tree.specs.Faults.{is_in, Leads}
@@ -15,7 +15,7 @@ use Rattle.text_kernel.specs.Lowering.{NextNumbers, Inlined, inlined_step, nothi
 use Rattle.text_sizes.specs.Extents.{no_extent, extent_at, extent_by, extent_step, exact, capped_size, extent_value}
 use Rattle.text_sizes.proofs.TermCountLemmas.{sequence_as, all_is, length_is}
 use Rattle.text_sizes.proofs.Sized.{made_terms, list_under}
-use Rattle.text_sizes.proofs.Nearby.{sequence_near, all_near, list_near}
+use Rattle.text_sizes.proofs.Nearby.{again, sequence_near, all_near, list_near}
 
 -- ---- tables
 
@@ -48,9 +48,6 @@ pub record IsCapped (kept whole : Extent) : Type 0 where
   pub own : kept.own ≡ min whole.own (2 ^ 64 - 1)
   pub under : kept.under ≡ min whole.under (2 ^ 64 - 1)
 
-again : (a b : ℕ) → a ≡ min b (2 ^ 64 - 1) → min a (2 ^ 64 - 1) ≡ min b (2 ^ 64 - 1)
-again a b h = omega arith
-
 by_capped : (a b : ℕ → Extent) (f : Option PlainFunction) → ((g : ℕ) → IsCapped (a g) (b g)) → IsCapped (extent_by capped_size a f) (extent_by exact b f)
 by_capped a b None h = record { own = refl; under = refl }
 by_capped a b (Some f) h =
@@ -81,7 +78,7 @@ body_own : (text : Text) (called : ℕ → Inlined) (sizes : ℕ → Extent) →
     (f : Option PlainFunction) (first t : ℕ) (n : NextNumbers) → stmt_terms (inlined_body text called f first t n).stmt ≡ (extent_by exact sizes f).own
 body_own text called sizes right None first t n = refl
 body_own text called sizes right (Some f) first t n =
-    sequence_as _ _ _ (length_is text called (λ g. (sizes g).own) right t (params_at first f.params) n f.body) (all_is text called (λ g. (sizes g).own) right t (params_at first f.params) n f.body)
+    sequence_as _ _ _ (length_is text called t (params_at first f.params) n f.body) (all_is text called (λ g. (sizes g).own) right t (params_at first f.params) n f.body)
 
 body_under : (text : Text) (called : ℕ → Inlined) (sizes : ℕ → Extent) → ((id first t : ℕ) (n : NextNumbers) → stmt_terms (called id first t n).stmt ≡ (sizes id).own) →
     ((id first t : ℕ) (n : NextNumbers) → made_terms (called id first t n).made ≡ (sizes id).under) →

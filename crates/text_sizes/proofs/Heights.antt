@@ -1,6 +1,6 @@
 -- The numbers counted on the text are those of the kernel: the words of threads exactly, and how deep they are at least.
-use Rattle.std.proofs.Common.{ℕ, zero, suc, ◌+◌, ◌≤◌, ◌≡◌, ◌∙◌, max, ap, refl, Option, Some, None, List, [], ◌∷◌, ◌++◌, arith}
-use Rattle.forec_tree.specs.Terms.{Terms, no_terms, more_terms, count_terms, Statement, Declare, Nothing, Group, Assign, Invoke, If, While, For, Pause, Par, Abort, Return, Statements, no_statements, more_statements, Perhaps, absent, present, Branches, no_branches, by_call, by_group, Text, PlainFunction}
+use Rattle.std.proofs.Common.{ℕ, zero, suc, ◌+◌, ◌≤◌, ◌≡◌, ◌∙◌, max, sym, ap, subst, refl, Option, Some, None, List, [], ◌∷◌, ◌++◌, arith}
+use Rattle.forec_tree.specs.Terms.{count_terms, Statement, Declare, Nothing, Group, Assign, Invoke, If, While, For, Pause, Par, Abort, Return, Statements, no_statements, more_statements, Perhaps, absent, present, Branches, no_branches, by_call, by_group, Text, PlainFunction}
 use Rattle.forec_tree.specs.Pauses.{within, find_function}
 use Rattle.forec_kernel.specs.Terms.{Stmt, Stmts, no_stmts, more_stmts}
 use Rattle.forec_kernel.specs.WellFormed.{stmt_depth, stmts_depth}
@@ -12,7 +12,7 @@ use Rattle.text_kernel.specs.Lowering.{sequence, ends_with, set_params, scope_af
 use Rattle.text_sizes.specs.TermCounts.{slots_all, statement_count}
 use Rattle.text_sizes.specs.Extents.{exact}
 use Rattle.text_sizes.specs.Spans.{sequence_levels, levels, levels_all, levels_perhaps, block_levels, most, most_all, most_perhaps, most_branches, words_by, levels_by, no_span, span_by, span_step}
-use Rattle.text_sizes.proofs.TermCountLemmas.{stmts_length}
+use Rattle.text_sizes.proofs.TermCountLemmas.{stmts_length, ends_length, sets_length, length_is}
 use Rattle.text_sizes.proofs.Sized.{list_slots}
 
 -- ---- sequences
@@ -27,17 +27,9 @@ sequence_deep (more_stmts a (more_stmts b rest)) zero m l h = absurd (omega (ari
 sequence_deep (more_stmts a (more_stmts b rest)) (suc zero) m l h = absurd (omega (arith, l))
 sequence_deep (more_stmts a (more_stmts b rest)) (suc (suc n)) m l h = omega (arith, h)
 
-ends_long : (list : Stmts) (a : Stmt) → stmts_length (ends_with list a) ≡ suc (stmts_length list)
-ends_long no_stmts a = refl
-ends_long (more_stmts b rest) a = ap suc (ends_long rest a)
-
 ends_deep : (list : Stmts) (a : Stmt) → stmt_depth a ≤ stmts_depth (ends_with list a)
 ends_deep no_stmts a = omega arith
 ends_deep (more_stmts b rest) a = let e = ends_deep rest a in omega (arith, e)
-
-sets_long : (text : Text) (s : List Slot) (slot : ℕ) (es : Terms) → stmts_length (set_params text s slot es) ≡ count_terms es
-sets_long text s slot no_terms = refl
-sets_long text s slot (more_terms e rest) = ap suc (sets_long text s (suc slot) rest)
 
 after_deep : (start : Perhaps) (a loop : Stmt) (m n : ℕ) → m ≤ stmt_depth a → n ≤ stmt_depth loop → (start ≡ absent → m ≡ 0) → max m n ≤ stmt_depth (after_start start a loop)
 after_deep absent a loop m n h g z = let e = z refl in omega (arith, e, g)
@@ -53,14 +45,10 @@ none_at called a e = ap (levels_perhaps called) e
 -- ---- levels
 
 module _ (text : Text) (called : ℕ → Inlined) (known : ℕ → ℕ) (right : (id first t : ℕ) (n : NextNumbers) → known id ≤ stmt_depth (called id first t n).stmt) where
-  list_long : (t : ℕ) (s : List Slot) (n : NextNumbers) (a : Statements) → stmts_length (lower_list text called t s n a).list ≡ statement_count a
-  list_long t s n no_statements = refl
-  list_long t s n (more_statements a rest) = ap suc (list_long t (scope_after text s n.slot a) (lower_statement text called t s n a).next rest)
-
   mutual
     pub deep_is : (t : ℕ) (s : List Slot) (n : NextNumbers) (a : Statement) → levels known a ≤ stmt_depth (lower_statement text called t s n a).stmt
     deep_is t s n (Nothing at) = omega arith
-    deep_is t s n (Group at body) = sequence_deep (lower_list text called t s n body).list (statement_count body) (levels_all known body) (list_long t s n body) (all_deep t s n body)
+    deep_is t s n (Group at body) = sequence_deep (lower_list text called t s n body).list (statement_count body) (levels_all known body) (length_is text called t s n body) (all_deep t s n body)
     deep_is t s n (Declare at locals) = omega arith
     deep_is t s n (Assign at target op value) = omega arith
     deep_is t s n (Invoke at name args) =
@@ -69,7 +57,7 @@ module _ (text : Text) (called : ℕ → Inlined) (known : ℕ → ℕ) (right :
         let sets = set_params text s n.slot args in
         let e = ends_deep sets l.stmt in
         let r = right name.id n.slot t from in
-        sequence_deep (ends_with sets l.stmt) (suc (count_terms args)) (known name.id) (ends_long sets l.stmt ∙ ap suc (sets_long text s n.slot args)) (omega (arith, e, r))
+        sequence_deep (ends_with sets l.stmt) (suc (count_terms args)) (known name.id) (ends_length sets l.stmt ∙ ap suc (sets_length text s n.slot args)) (omega (arith, e, r))
     deep_is t s n (If at test a b) =
         let l = lower_statement text called t s n a in
         let e = deep_is t s n a in
@@ -87,7 +75,7 @@ module _ (text : Text) (called : ℕ → Inlined) (known : ℕ → ℕ) (right :
     deep_is t s n (Pause at) = omega arith
     deep_is t s n (Par at bs) = omega arith
     deep_is t s n (Abort at weak immediate test body) =
-        let e = sequence_deep (lower_list text called t s n body).list (statement_count body) (levels_all known body) (list_long t s n body) (all_deep t s n body) in omega (arith, e)
+        let e = sequence_deep (lower_list text called t s n body).list (statement_count body) (levels_all known body) (length_is text called t s n body) (all_deep t s n body) in omega (arith, e)
     deep_is t s n (Return at value) = omega arith
 
     all_deep : (t : ℕ) (s : List Slot) (n : NextNumbers) (a : Statements) → levels_all known a ≤ stmts_depth (lower_list text called t s n a).list
@@ -103,7 +91,7 @@ module _ (text : Text) (called : ℕ → Inlined) (known : ℕ → ℕ) (right :
     perhaps_deep t s n (present a) = deep_is t s n a
 
   pub list_is : (t : ℕ) (s : List Slot) (n : NextNumbers) (a : Statements) → block_levels known a ≤ stmt_depth (sequence (lower_list text called t s n a).list)
-  list_is t s n a = sequence_deep (lower_list text called t s n a).list (statement_count a) (levels_all known a) (list_long t s n a) (all_deep t s n a)
+  list_is t s n a = sequence_deep (lower_list text called t s n a).list (statement_count a) (levels_all known a) (length_is text called t s n a) (all_deep t s n a)
 
 -- ---- a measure of the threads below
 
@@ -116,10 +104,12 @@ module _ (measure : Made → ℕ) where
   most_append [] b = omega arith
   most_append (m ∷ a) b = let e = most_append a b in omega (arith, e)
 
+  -- the greatest measure on the text and in what becomes of it are related, where each thread's are
   module _
+      (Related : ℕ → ℕ → Type 0) (none : Related 0 0) (joins : (a b c d : ℕ) → Related a b → Related c d → Related (max a c) (max b d))
       (text : Text) (called : ℕ → Inlined) (by_name : ℕ → ℕ → ℕ) (by_body : Statements → ℕ) (below : ℕ → ℕ)
       (names : (t p thread args : ℕ) (name : Rattle.forec_tree.specs.declared.tree.Name.Name) (n : NextNumbers) (params : ℕ) → n.slot ≡ args →
-      by_name name.id args ≤ measure (record {
+      Related (by_name name.id args) (measure (record {
         parent = t;
         par = p;
         name = Some name.id;
@@ -128,9 +118,9 @@ module _ (measure : Made → ℕ) where
         behind = (called name.id 0 thread n).next.thread;
         body = (called name.id 0 thread n).stmt;
         named = low.vars_of (called name.id 0 thread n).stmt ++ low.vars_made (called name.id 0 thread n).made;
-      }))
+      })))
       (bodies : (t p thread : ℕ) (n : NextNumbers) (body : Statements) → n.slot ≡ 0 →
-      by_body body ≤ measure (record {
+      Related (by_body body) (measure (record {
         parent = t;
         par = p;
         name = None;
@@ -139,172 +129,68 @@ module _ (measure : Made → ℕ) where
         behind = (lower_list text called thread [] n body).next.thread;
         body = sequence (lower_list text called thread [] n body).list;
         named = low.vars_of (sequence (lower_list text called thread [] n body).list) ++ low.vars_made (lower_list text called thread [] n body).made;
-      }))
-      (beneath : (id first t : ℕ) (n : NextNumbers) → below id ≤ made_most (called id first t n).made) where
+      })))
+      (beneath : (id first t : ℕ) (n : NextNumbers) → Related (below id) (made_most (called id first t n).made)) where
+    both : (x y : ℕ) (a b : List Made) → Related x (made_most a) → Related y (made_most b) → Related (max x y) (made_most (a ++ b))
+    both x y a b f g = subst (Related (max x y)) (sym (most_append a b)) (joins x (made_most a) y (made_most b) f g)
+
+    -- a thread, those below it, and the threads behind
+    grouped : (x y z : ℕ) → max x (max y z) ≡ max (max x y) z
+    grouped x y z = omega arith
+
+    threaded : (x y z : ℕ) (m : Made) (a b : List Made) → Related x (measure m) → Related y (made_most a) → Related z (made_most b) → Related (max (max x y) z) (made_most (m ∷ (a ++ b)))
+    threaded x y z m a b f g h =
+        subst (λ k. Related k (made_most (m ∷ (a ++ b)))) (grouped x y z) (joins x (measure m) (max y z) (made_most (a ++ b)) f (both y z a b g h))
+
     mutual
-      pub most_least : (t : ℕ) (s : List Slot) (n : NextNumbers) (a : Statement) → most by_name by_body below a ≤ made_most (lower_statement text called t s n a).made
-      most_least t s n (Nothing at) = omega arith
-      most_least t s n (Group at body) = all_least t s n body
-      most_least t s n (Declare at locals) = omega arith
-      most_least t s n (Assign at target op value) = omega arith
-      most_least t s n (Invoke at name args) = beneath name.id n.slot t (record { slot = n.slot + count_terms args; thread = n.thread; par = n.par })
-      most_least t s n (If at test a b) =
+      most_related : (t : ℕ) (s : List Slot) (n : NextNumbers) (a : Statement) → Related (most by_name by_body below a) (made_most (lower_statement text called t s n a).made)
+      most_related t s n (Nothing at) = none
+      most_related t s n (Group at body) = all_related t s n body
+      most_related t s n (Declare at locals) = none
+      most_related t s n (Assign at target op value) = none
+      most_related t s n (Invoke at name args) = beneath name.id n.slot t (record { slot = n.slot + count_terms args; thread = n.thread; par = n.par })
+      most_related t s n (If at test a b) =
           let l = lower_statement text called t s n a in
-          let m = lower_perhaps text called t s l.next b in
-          let e = most_append l.made m.made in
-          let d = most_least t s n a in
-          let f = perhaps_least t s l.next b in
-          omega (arith, e, d, f)
-      most_least t s n (While at test bound body) = most_least t s n body
-      most_least t s n (For at start test step bound body) =
+          both _ _ l.made _ (most_related t s n a) (perhaps_related t s l.next b)
+      most_related t s n (While at test bound body) = most_related t s n body
+      most_related t s n (For at start test step bound body) =
           let inside = scope_after_perhaps text s n.slot start in
           let i = lower_perhaps text called t s n start in
           let j = lower_perhaps text called t inside i.next step in
           let inner = scope_after_perhaps text inside i.next.slot step in
           let l = lower_statement text called t inner j.next body in
-          let e = most_append i.made (j.made ++ l.made) in
-          let d = most_append j.made l.made in
-          let f = perhaps_least t s n start in
-          let g = perhaps_least t inside i.next step in
-          let h = most_least t inner j.next body in
-          omega (arith, e, d, f, g, h)
-      most_least t s n (Pause at) = omega arith
-      most_least t s n (Par at bs) = branches_least t s n.par (record { slot = n.slot; thread = n.thread; par = par_after bs n.par }) bs
-      most_least t s n (Abort at weak immediate test body) = all_least t s n body
-      most_least t s n (Return at value) = omega arith
+          both _ _ i.made (j.made ++ l.made) (perhaps_related t s n start)
+          (both _ _ j.made l.made (perhaps_related t inside i.next step) (most_related t inner j.next body))
+      most_related t s n (Pause at) = none
+      most_related t s n (Par at bs) = branches_related t s n.par (record { slot = n.slot; thread = n.thread; par = par_after bs n.par }) bs
+      most_related t s n (Abort at weak immediate test body) = all_related t s n body
+      most_related t s n (Return at value) = none
 
-      pub all_least : (t : ℕ) (s : List Slot) (n : NextNumbers) (a : Statements) → most_all by_name by_body below a ≤ made_most (lower_list text called t s n a).made
-      all_least t s n no_statements = omega arith
-      all_least t s n (more_statements a rest) =
+      pub all_related : (t : ℕ) (s : List Slot) (n : NextNumbers) (a : Statements) → Related (most_all by_name by_body below a) (made_most (lower_list text called t s n a).made)
+      all_related t s n no_statements = none
+      all_related t s n (more_statements a rest) =
           let l = lower_statement text called t s n a in
-          let inner = scope_after text s n.slot a in
-          let m = lower_list text called t inner l.next rest in
-          let e = most_append l.made m.made in
-          let d = most_least t s n a in
-          let f = all_least t inner l.next rest in
-          omega (arith, e, d, f)
+          both _ _ l.made _ (most_related t s n a) (all_related t (scope_after text s n.slot a) l.next rest)
 
-      perhaps_least : (t : ℕ) (s : List Slot) (n : NextNumbers) (a : Perhaps) → most_perhaps by_name by_body below a ≤ made_most (lower_perhaps text called t s n a).made
-      perhaps_least t s n absent = omega arith
-      perhaps_least t s n (present a) = most_least t s n a
+      perhaps_related : (t : ℕ) (s : List Slot) (n : NextNumbers) (a : Perhaps) → Related (most_perhaps by_name by_body below a) (made_most (lower_perhaps text called t s n a).made)
+      perhaps_related t s n absent = none
+      perhaps_related t s n (present a) = most_related t s n a
 
-      branches_least : (t : ℕ) (s : List Slot) (p : ℕ) (n : NextNumbers) (bs : Branches) → most_branches by_name by_body below bs ≤ made_most (lower_branches text called t s p n bs).made
-      branches_least t s p n no_branches = omega arith
-      branches_least t s p n (by_call name args rest) =
+      branches_related : (t : ℕ) (s : List Slot) (p : ℕ) (n : NextNumbers) (bs : Branches) → Related (most_branches by_name by_body below bs) (made_most (lower_branches text called t s p n bs).made)
+      branches_related t s p n no_branches = none
+      branches_related t s p n (by_call name args rest) =
           let inside : NextNumbers = record { slot = count_terms args; thread = suc n.thread; par = n.par } in
           let b = called name.id 0 n.thread inside in
           let next : NextNumbers = record { slot = n.slot; thread = b.next.thread; par = b.next.par } in
-          let m = lower_branches text called t s p next rest in
-          let e = most_append b.made m.made in
-          let f = names t p n.thread (count_terms args) name inside (Rattle.std.proofs.Common.length (low.param_names (find_function name.id text))) refl in
-          let g = beneath name.id 0 n.thread inside in
-          let h = branches_least t s p next rest in
-          omega (arith, e, f, g, h)
-      branches_least t s p n (by_group at body rest) =
+          threaded _ _ _ _ b.made (lower_branches text called t s p next rest).made
+          (names t p n.thread (count_terms args) name inside (Rattle.std.proofs.Common.length (low.param_names (find_function name.id text))) refl)
+          (beneath name.id 0 n.thread inside) (branches_related t s p next rest)
+      branches_related t s p n (by_group at body rest) =
           let inside : NextNumbers = record { slot = 0; thread = suc n.thread; par = n.par } in
           let l = lower_list text called n.thread [] inside body in
           let next : NextNumbers = record { slot = n.slot; thread = l.next.thread; par = l.next.par } in
-          let m = lower_branches text called t s p next rest in
-          let e = most_append l.made m.made in
-          let f = bodies t p n.thread inside body refl in
-          let g = all_least n.thread [] inside body in
-          let h = branches_least t s p next rest in
-          omega (arith, e, f, g, h)
-
-  module _
-      (text : Text) (called : ℕ → Inlined) (by_name : ℕ → ℕ → ℕ) (by_body : Statements → ℕ) (below : ℕ → ℕ)
-      (names : (t p thread args : ℕ) (name : Rattle.forec_tree.specs.declared.tree.Name.Name) (n : NextNumbers) (params : ℕ) → n.slot ≡ args →
-      measure (record {
-        parent = t;
-        par = p;
-        name = Some name.id;
-        params = params;
-        words = (called name.id 0 thread n).next.slot;
-        behind = (called name.id 0 thread n).next.thread;
-        body = (called name.id 0 thread n).stmt;
-        named = low.vars_of (called name.id 0 thread n).stmt ++ low.vars_made (called name.id 0 thread n).made;
-      }) ≤ by_name name.id args)
-      (bodies : (t p thread : ℕ) (n : NextNumbers) (body : Statements) → n.slot ≡ 0 →
-      measure (record {
-        parent = t;
-        par = p;
-        name = None;
-        params = 0;
-        words = (lower_list text called thread [] n body).next.slot;
-        behind = (lower_list text called thread [] n body).next.thread;
-        body = sequence (lower_list text called thread [] n body).list;
-        named = low.vars_of (sequence (lower_list text called thread [] n body).list) ++ low.vars_made (lower_list text called thread [] n body).made;
-      }) ≤ by_body body)
-      (beneath : (id first t : ℕ) (n : NextNumbers) → made_most (called id first t n).made ≤ below id) where
-    mutual
-      pub most_greatest : (t : ℕ) (s : List Slot) (n : NextNumbers) (a : Statement) → made_most (lower_statement text called t s n a).made ≤ most by_name by_body below a
-      most_greatest t s n (Nothing at) = omega arith
-      most_greatest t s n (Group at body) = all_greatest t s n body
-      most_greatest t s n (Declare at locals) = omega arith
-      most_greatest t s n (Assign at target op value) = omega arith
-      most_greatest t s n (Invoke at name args) = beneath name.id n.slot t (record { slot = n.slot + count_terms args; thread = n.thread; par = n.par })
-      most_greatest t s n (If at test a b) =
-          let l = lower_statement text called t s n a in
-          let m = lower_perhaps text called t s l.next b in
-          let e = most_append l.made m.made in
-          let d = most_greatest t s n a in
-          let f = perhaps_greatest t s l.next b in
-          omega (arith, e, d, f)
-      most_greatest t s n (While at test bound body) = most_greatest t s n body
-      most_greatest t s n (For at start test step bound body) =
-          let inside = scope_after_perhaps text s n.slot start in
-          let i = lower_perhaps text called t s n start in
-          let j = lower_perhaps text called t inside i.next step in
-          let inner = scope_after_perhaps text inside i.next.slot step in
-          let l = lower_statement text called t inner j.next body in
-          let e = most_append i.made (j.made ++ l.made) in
-          let d = most_append j.made l.made in
-          let f = perhaps_greatest t s n start in
-          let g = perhaps_greatest t inside i.next step in
-          let h = most_greatest t inner j.next body in
-          omega (arith, e, d, f, g, h)
-      most_greatest t s n (Pause at) = omega arith
-      most_greatest t s n (Par at bs) = branches_greatest t s n.par (record { slot = n.slot; thread = n.thread; par = par_after bs n.par }) bs
-      most_greatest t s n (Abort at weak immediate test body) = all_greatest t s n body
-      most_greatest t s n (Return at value) = omega arith
-
-      pub all_greatest : (t : ℕ) (s : List Slot) (n : NextNumbers) (a : Statements) → made_most (lower_list text called t s n a).made ≤ most_all by_name by_body below a
-      all_greatest t s n no_statements = omega arith
-      all_greatest t s n (more_statements a rest) =
-          let l = lower_statement text called t s n a in
-          let inner = scope_after text s n.slot a in
-          let m = lower_list text called t inner l.next rest in
-          let e = most_append l.made m.made in
-          let d = most_greatest t s n a in
-          let f = all_greatest t inner l.next rest in
-          omega (arith, e, d, f)
-
-      perhaps_greatest : (t : ℕ) (s : List Slot) (n : NextNumbers) (a : Perhaps) → made_most (lower_perhaps text called t s n a).made ≤ most_perhaps by_name by_body below a
-      perhaps_greatest t s n absent = omega arith
-      perhaps_greatest t s n (present a) = most_greatest t s n a
-
-      branches_greatest : (t : ℕ) (s : List Slot) (p : ℕ) (n : NextNumbers) (bs : Branches) → made_most (lower_branches text called t s p n bs).made ≤ most_branches by_name by_body below bs
-      branches_greatest t s p n no_branches = omega arith
-      branches_greatest t s p n (by_call name args rest) =
-          let inside : NextNumbers = record { slot = count_terms args; thread = suc n.thread; par = n.par } in
-          let b = called name.id 0 n.thread inside in
-          let next : NextNumbers = record { slot = n.slot; thread = b.next.thread; par = b.next.par } in
-          let m = lower_branches text called t s p next rest in
-          let e = most_append b.made m.made in
-          let f = names t p n.thread (count_terms args) name inside (Rattle.std.proofs.Common.length (low.param_names (find_function name.id text))) refl in
-          let g = beneath name.id 0 n.thread inside in
-          let h = branches_greatest t s p next rest in
-          omega (arith, e, f, g, h)
-      branches_greatest t s p n (by_group at body rest) =
-          let inside : NextNumbers = record { slot = 0; thread = suc n.thread; par = n.par } in
-          let l = lower_list text called n.thread [] inside body in
-          let next : NextNumbers = record { slot = n.slot; thread = l.next.thread; par = l.next.par } in
-          let m = lower_branches text called t s p next rest in
-          let e = most_append l.made m.made in
-          let f = bodies t p n.thread inside body refl in
-          let g = all_greatest n.thread [] inside body in
-          let h = branches_greatest t s p next rest in
-          omega (arith, e, f, g, h)
+          threaded _ _ _ _ l.made (lower_branches text called t s p next rest).made
+          (bodies t p n.thread inside body refl) (all_related n.thread [] inside body) (branches_related t s p next rest)
 
 -- ---- what is put in place is as its span tells
 
@@ -331,15 +217,9 @@ module _ (text : Text) (called : ℕ → Inlined) (known : ℕ → Span) (told :
   wide : (f : Option PlainFunction) (first t : ℕ) (n : NextNumbers) → words_in (inlined_body text called f first t n).made ≡ (span_by exact known f).widest
   wide None first t n = refl
   wide (Some f) first t n =
-      let at_least =
-      all_least (λ m. m.words) text called (words_by (λ g. (known g).slots)) (slots_all (λ g. (known g).slots)) (λ g. (known g).widest)
-      (λ t p thread args name n params z. (let e = told.slots name.id 0 thread n in omega (arith, e, z))) (λ t p thread n body z. (let e = body_slots_are t p thread n body z in omega (arith, e)))
-      (λ id first t n. (let e = told.widest id first t n in omega (arith, e))) t (params_at first f.params) n f.body in
-      let at_most =
-      all_greatest (λ m. m.words) text called (words_by (λ g. (known g).slots)) (slots_all (λ g. (known g).slots)) (λ g. (known g).widest)
-      (λ t p thread args name n params z. (let e = told.slots name.id 0 thread n in omega (arith, e, z))) (λ t p thread n body z. (let e = body_slots_are t p thread n body z in omega (arith, e)))
-      (λ id first t n. (let e = told.widest id first t n in omega (arith, e))) t (params_at first f.params) n f.body in
-      omega (arith, at_least, at_most)
+      sym (all_related (λ m. m.words) (λ x y. x ≡ y) refl (λ a b c d f g. (omega (arith, f, g))) text called (words_by (λ g. (known g).slots)) (slots_all (λ g. (known g).slots)) (λ g. (known g).widest)
+      (λ t p thread args name n params z. (let e = told.slots name.id 0 thread n in omega (arith, e, z))) (λ t p thread n body z. sym (body_slots_are t p thread n body z))
+      (λ id first t n. sym (told.widest id first t n)) t (params_at first f.params) n f.body)
 
   stacked : (f : Option PlainFunction) (first t : ℕ) (n : NextNumbers) → (span_by exact known f).levels ≤ stmt_depth (inlined_body text called f first t n).stmt
   stacked None first t n = omega arith
@@ -348,7 +228,7 @@ module _ (text : Text) (called : ℕ → Inlined) (known : ℕ → Span) (told :
   deep_below : (f : Option PlainFunction) (first t : ℕ) (n : NextNumbers) → (span_by exact known f).deepest ≤ depth_in (inlined_body text called f first t n).made
   deep_below None first t n = omega arith
   deep_below (Some f) first t n =
-      all_least (λ m. stmt_depth m.body) text called (levels_by (λ g. (known g).levels)) (block_levels (λ g. (known g).levels)) (λ g. (known g).deepest) (λ t p thread args name n params z. told.levels name.id 0 thread n)
+      all_related (λ m. stmt_depth m.body) (λ x y. x ≤ y) (omega arith) (λ a b c d f g. (omega (arith, f, g))) text called (levels_by (λ g. (known g).levels)) (block_levels (λ g. (known g).levels)) (λ g. (known g).deepest) (λ t p thread args name n params z. told.levels name.id 0 thread n)
       (λ t p thread n body z. list_is text called (λ g. (known g).levels) told.levels thread [] n body) told.deepest t (params_at first f.params) n f.body
 
 pub all_told : (text : Text) (deep : ℕ) → Told (within nothing_inlined (inlined_step text) deep) (within no_span (span_step exact text) deep)

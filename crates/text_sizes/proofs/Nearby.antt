@@ -1,10 +1,14 @@
 -- Counts of terms by tables that are the same up to a cap are the same up to it.
-use Rattle.std.proofs.Common.{ℕ, zero, suc, ◌+◌, ◌≡◌, min, refl, true, List, [], ◌++◌, arith}
+use Rattle.std.proofs.Common.{ℕ, zero, suc, ◌+◌, ◌≡◌, min, refl, true, List, [], ◌++◌, arith, ◌-◌, ◌^◌}
 use Rattle.forec_tree.specs.Terms.{count_terms, Statement, Declare, Nothing, Group, Assign, Invoke, If, While, For, Pause, Par, Abort, Return, Statements, no_statements, more_statements, Perhaps, absent, present, Branches, no_branches, by_call, by_group}
 use Rattle.forec_tree.specs.Pauses.{started_names, all_started, perhaps_started, branches_started}
 use Rattle.forec_tree.specs.Faults.{is_in}
 use Rattle.forec_tree.proofs.Agrees.{in_left, in_right, in_head, in_tail}
 use Rattle.text_sizes.specs.TermCounts.{sequence_count, sets_count, statement_count, optional_count, own, own_all, own_perhaps, own_start, own_step, under, under_all, under_perhaps, under_branches}
+
+-- what is capped once is so again
+pub again : (a b : ℕ) → a ≡ min b (2 ^ 64 - 1) → min a (2 ^ 64 - 1) ≡ min b (2 ^ 64 - 1)
+again a b h = omega arith
 
 pub sequence_near : (c n x y : ℕ) → min x c ≡ min y c → min (sequence_count n x) c ≡ min (sequence_count n y) c
 sequence_near c zero x y h = refl

@@ -7,6 +7,7 @@ use Rattle.forec_kernel.specs.WellFormed.{stmt_terms}
 use Rattle.text_kernel.specs.declared.names.Slot.{Slot}
 use Rattle.text_kernel.specs.Bindings.{params_at, slots_of}
 use Rattle.text_kernel.specs.Lowering.{sequence, slots_after, scope_after, scope_after_perhaps, par_after, NextNumbers, Made, Inlined, inlined_body, inlined_step, nothing_inlined, lower_statement, lower_list, lower_perhaps, lower_branches}
+use Rattle.text_kernel.proofs.Rises.{branches_rise}
 use Rattle.text_sizes.specs.TermCounts.{locals_slots, slots, slots_all, slots_perhaps, under, under_all, under_perhaps, under_branches, sequence_count, statement_count, own_all, body_slots, slots_step}
 use Rattle.text_sizes.proofs.TermCountLemmas.{sequence_as, all_is, length_is}
 
@@ -84,6 +85,9 @@ behind_is text slot [] = omega arith
 behind_is text slot (l ∷ rest) = let e = behind_is text (slot + slots_of l.length) rest in omega (arith, e)
 
 module _ (text : Text) (called : ℕ → Inlined) (count : ℕ → ℕ) (right : (id first t : ℕ) (n : NextNumbers) → (called id first t n).next.slot ≡ n.slot + count id) where
+  branches_slots : (t : ℕ) (s : List Slot) (p : ℕ) (n : NextNumbers) (bs : Branches) → (lower_branches text called t s p n bs).next.slot ≡ n.slot
+  branches_slots = branches_rise text called (λ id first t n. (let e = right id first t n in omega (arith, e)))
+
   mutual
     pub slots_are : (t : ℕ) (s : List Slot) (n : NextNumbers) (a : Statement) → (lower_statement text called t s n a).next.slot ≡ n.slot + slots count a
     slots_are t s n (Nothing at) = omega arith
@@ -113,15 +117,6 @@ module _ (text : Text) (called : ℕ → Inlined) (count : ℕ → ℕ) (right :
     perhaps_slots : (t : ℕ) (s : List Slot) (n : NextNumbers) (a : Perhaps) → (lower_perhaps text called t s n a).next.slot ≡ n.slot + slots_perhaps count a
     perhaps_slots t s n absent = omega arith
     perhaps_slots t s n (present a) = slots_are t s n a
-
-    branches_slots : (t : ℕ) (s : List Slot) (p : ℕ) (n : NextNumbers) (bs : Branches) → (lower_branches text called t s p n bs).next.slot ≡ n.slot
-    branches_slots t s p n no_branches = refl
-    branches_slots t s p n (by_call name args rest) =
-        let b = called name.id 0 n.thread (record { slot = count_terms args; thread = suc n.thread; par = n.par }) in
-        branches_slots t s p (record { slot = n.slot; thread = b.next.thread; par = b.next.par }) rest
-    branches_slots t s p n (by_group at body rest) =
-        let l = lower_list text called n.thread [] (record { slot = 0; thread = suc n.thread; par = n.par }) body in
-        branches_slots t s p (record { slot = n.slot; thread = l.next.thread; par = l.next.par }) rest
 
 body_takes : (text : Text) (called : ℕ → Inlined) (count : ℕ → ℕ) → ((id first t : ℕ) (n : NextNumbers) → (called id first t n).next.slot ≡ n.slot + count id) →
     (f : Option PlainFunction) (first t : ℕ) (n : NextNumbers) → (inlined_body text called f first t n).next.slot ≡ n.slot + body_slots count f
@@ -202,5 +197,5 @@ module _
         let next : NextNumbers = record { slot = n.slot; thread = l.next.thread; par = l.next.par } in
         let m = lower_branches text called t s p next rest in
         let e = made_append l.made m.made in
-        let own : stmt_terms (sequence l.list) ≡ sequence_count (statement_count body) (own_all sizes body) = sequence_as l.list _ _ (length_is text called sizes right n.thread [] inside body) (all_is text called sizes right n.thread [] inside body) in
+        let own : stmt_terms (sequence l.list) ≡ sequence_count (statement_count body) (own_all sizes body) = sequence_as l.list _ _ (length_is text called n.thread [] inside body) (all_is text called sizes right n.thread [] inside body) in
         omega (arith, e, own, list_under n.thread [] inside body, branches_under t s p next rest)

@@ -63,7 +63,7 @@ sequence_terms (more_stmts a (more_stmts b rest)) = refl
 pub sequence_as : (list : Stmts) (n m : ℕ) → stmts_length list ≡ n → stmts_terms list ≡ m → stmt_terms (sequence list) ≡ sequence_count n m
 sequence_as list n m h g = sequence_terms list ∙ ap (λ k. sequence_count k (stmts_terms list)) h ∙ ap (sequence_count n) g
 
-ends_length : (list : Stmts) (a : Stmt) → stmts_length (ends_with list a) ≡ suc (stmts_length list)
+pub ends_length : (list : Stmts) (a : Stmt) → stmts_length (ends_with list a) ≡ suc (stmts_length list)
 ends_length no_stmts a = refl
 ends_length (more_stmts b rest) a = ap suc (ends_length rest a)
 
@@ -105,6 +105,17 @@ pub par_terms : (bs : List Branch) → stmt_terms (par_of bs) ≡ suc (branches_
 par_terms [] = refl
 par_terms (b ∷ rest) = omega arith
 
+pub sets_length : (text : Text) (s : List Slot) (slot : ℕ) (es : Terms) → stmts_length (set_params text s slot es) ≡ count_terms es
+sets_length text s slot no_terms = refl
+sets_length text s slot (more_terms e rest) = ap suc (sets_length text s (suc slot) rest)
+
+-- as many statements
+pub length_is : (text : Text) (called : ℕ → Inlined) (t : ℕ) (s : List Slot) (n : NextNumbers) (a : Statements) →
+    stmts_length (lower_list text called t s n a).list ≡ statement_count a
+length_is text called t s n no_statements = refl
+length_is text called t s n (more_statements a rest) =
+    ap suc (length_is text called t (scope_after text s n.slot a) (lower_statement text called t s n a).next rest)
+
 module _ (text : Text) (called : ℕ → Inlined) (sizes : ℕ → ℕ) (right : (id first t : ℕ) (n : NextNumbers) → stmt_terms (called id first t n).stmt ≡ sizes id) where
   values_length : (s : List Slot) (slot size k : ℕ) (es : Terms) (place : Place) → stmts_length (array_values text s slot size k es place) ≡ count_terms es
   values_length s slot size k no_terms place = refl
@@ -118,10 +129,6 @@ module _ (text : Text) (called : ℕ → Inlined) (sizes : ℕ → ℕ) (right :
       stmt_terms (elim es [ no_terms ↦ kernel.Clear slot 1 | more_terms e rest ↦ kernel.Set (Rattle.forec_kernel.specs.declared.terms.Spot.TheVariants.Local slot) (lower_term text s e) ]) ≡ first_count es
   first_terms s slot no_terms = refl
   first_terms s slot (more_terms e rest) = omega (arith, term_weight text s e)
-
-  sets_length : (s : List Slot) (slot : ℕ) (es : Terms) → stmts_length (set_params text s slot es) ≡ count_terms es
-  sets_length s slot no_terms = refl
-  sets_length s slot (more_terms e rest) = ap suc (sets_length s (suc slot) rest)
 
   sets_terms : (s : List Slot) (slot : ℕ) (es : Terms) → stmts_terms (set_params text s slot es) ≡ sets_count es
   sets_terms s slot no_terms = refl
@@ -174,7 +181,7 @@ module _ (text : Text) (called : ℕ → Inlined) (sizes : ℕ → ℕ) (right :
   mutual
     pub own_is : (t : ℕ) (s : List Slot) (n : NextNumbers) (a : Statement) → stmt_terms (lower_statement text called t s n a).stmt ≡ own sizes a
     own_is t s n (Nothing at) = refl
-    own_is t s n (Group at body) = sequence_as _ _ _ (length_is t s n body) (all_is t s n body)
+    own_is t s n (Group at body) = sequence_as _ _ _ (length_is text called t s n body) (all_is t s n body)
     own_is t s n (Declare at locals) = sequence_as (lower_locals text s n.slot locals) _ _ (locals_length s n.slot locals) (locals_terms s n.slot locals)
     own_is t s n (Assign at target op value) = target_terms s target op value
     own_is t s n (Invoke at name args) =
@@ -182,7 +189,7 @@ module _ (text : Text) (called : ℕ → Inlined) (sizes : ℕ → ℕ) (right :
         let l = called name.id n.slot t from in
         let sets = set_params text s n.slot args in
         sequence_as (ends_with sets l.stmt) (suc (count_terms args)) (sets_count args + sizes name.id)
-        (ends_length sets l.stmt ∙ ap suc (sets_length s n.slot args))
+        (ends_length sets l.stmt ∙ ap suc (sets_length text s n.slot args))
         (let e = ends_terms sets l.stmt in let h : stmts_terms (ends_with sets l.stmt) ≡ sets_count args + sizes name.id = omega (arith, e, sets_terms s n.slot args, right name.id n.slot t from) in h)
     own_is t s n (If at test a b) =
         let l = lower_statement text called t s n a in
@@ -202,13 +209,8 @@ module _ (text : Text) (called : ℕ → Inlined) (sizes : ℕ → ℕ) (right :
         let from : NextNumbers = record { slot = n.slot; thread = n.thread; par = par_after bs n.par } in
         par_terms (lower_branches text called t s n.par from bs).launches ∙ (let e = branches_are t s n.par from bs in omega (arith, e))
     own_is t s n (Abort at weak immediate test body) =
-        let e = sequence_as _ _ _ (length_is t s n body) (all_is t s n body) in omega (arith, term_weight text s test, e)
+        let e = sequence_as _ _ _ (length_is text called t s n body) (all_is t s n body) in omega (arith, term_weight text s test, e)
     own_is t s n (Return at value) = omega (arith, term_weight text s value)
-
-    pub length_is : (t : ℕ) (s : List Slot) (n : NextNumbers) (a : Statements) → stmts_length (lower_list text called t s n a).list ≡ statement_count a
-    length_is t s n no_statements = refl
-    length_is t s n (more_statements a rest) =
-        ap suc (length_is t (scope_after text s n.slot a) (lower_statement text called t s n a).next rest)
 
     pub all_is : (t : ℕ) (s : List Slot) (n : NextNumbers) (a : Statements) → stmts_terms (lower_list text called t s n a).list ≡ own_all sizes a
     all_is t s n no_statements = refl

@@ -12,6 +12,7 @@ use Rattle.text_sizes.specs.declared.span.Span.{Span}
 use Rattle.text_sizes.specs.TermCounts.{slots, slots_all, slots_perhaps, statement_count}
 use Rattle.text_sizes.specs.Extents.{capped_size, exact}
 use Rattle.text_sizes.specs.Spans.{sequence_levels, levels, levels_all, levels_perhaps, block_levels, most, most_all, most_perhaps, most_branches, words_by, levels_by, no_span, span_at, span_by, span_step, span_value}
+use Rattle.text_sizes.proofs.Nearby.{again}
 
 -- ---- tables
 
@@ -226,9 +227,6 @@ pub record IsKept (kept whole : Span) : Type 0 where
   pub widest : kept.widest ≡ min whole.widest (2 ^ 64 - 1)
   pub levels : kept.levels ≡ min whole.levels (2 ^ 64 - 1)
   pub deepest : kept.deepest ≡ min whole.deepest (2 ^ 64 - 1)
-
-again : (a b : ℕ) → a ≡ min b (2 ^ 64 - 1) → min a (2 ^ 64 - 1) ≡ min b (2 ^ 64 - 1)
-again a b h = omega arith
 
 by_kept : (a b : ℕ → Span) (f : Option PlainFunction) → ((g : ℕ) → IsKept (a g) (b g)) → IsKept (span_by capped_size a f) (span_by exact b f)
 by_kept a b None h = record { slots = refl; widest = refl; levels = refl; deepest = refl }

@@ -1,3 +1,4 @@
 pub mod TermCounts
 pub mod Extents
 pub mod Spans
+pub mod Measures

@@ -1,10 +1,5 @@
 -- How many words threads take, and at least how many statements nest, counted on the text.
-use Rattle.std.specs.Prelude.{ℕ, zero, suc, ◌+◌, ◌-◌, ◌^◌, ◌≡◌, min, max, Option, Some, None, List, length, slice_index_or}
-use Rattle.std.specs.declared.boxed.Box.{Box}
-use Rattle.std.specs.declared.alloc.Global as alloc
-use Rattle.forec_tree.specs.declared.tree.Branch.{Branch}
-use Rattle.forec_tree.specs.declared.tree.Stmt.{Stmt}
-use Rattle.forec_tree.specs.Plain as plain
+use Rattle.std.specs.Prelude.{ℕ, zero, suc, ◌+◌, max, Option, Some, None, List, length, slice_index_or}
 use Rattle.forec_tree.specs.Terms.{count_terms, Statement, Declare, Nothing, Group, Assign, Invoke, If, While, For, Pause, Par, Abort, Return, Statements, no_statements, more_statements, Perhaps, absent, present, Branches, no_branches, by_call, by_group, Text, PlainFunction}
 use Rattle.forec_tree.specs.Pauses.{within, find_function}
 use Rattle.text_sizes.specs.declared.span.Span.{Span}
@@ -101,32 +96,6 @@ levels_at table id = (span_at table id).levels
 
 abbrev pub deepest_at : List Span → ℕ → ℕ
 deepest_at table id = (span_at table id).deepest
-
--- the words of the widest thread below, up to the greatest number of 64 bits: of a statement, an optional one, statements, branches
-abbrev pub IsWidest : List Span → Stmt → ℕ → Type 0
-IsWidest table s n = n ≡ min (most (words_by (slots_at table)) (slots_all (slots_at table)) (widest_at table) (plain.statement s)) (2 ^ 64 - 1)
-
-abbrev pub IsWidestOfOptional : List Span → Option (Box Stmt alloc.Global) → ℕ → Type 0
-IsWidestOfOptional table s n = n ≡ min (most_perhaps (words_by (slots_at table)) (slots_all (slots_at table)) (widest_at table) (plain.perhaps_of s)) (2 ^ 64 - 1)
-
-abbrev pub IsWidestOfAll : List Span → List Stmt → ℕ → Type 0
-IsWidestOfAll table list n = n ≡ min (most_all (words_by (slots_at table)) (slots_all (slots_at table)) (widest_at table) (plain.statements list)) (2 ^ 64 - 1)
-
-abbrev pub IsWidestOfBranches : List Span → List Branch → ℕ → Type 0
-IsWidestOfBranches table list n = n ≡ min (most_branches (words_by (slots_at table)) (slots_all (slots_at table)) (widest_at table) (plain.branches list)) (2 ^ 64 - 1)
-
--- the nested statements in the deepest thread below, up to the greatest number of 64 bits: of a statement, an optional one, statements, branches
-abbrev pub IsDeepest : List Span → Stmt → ℕ → Type 0
-IsDeepest table s n = n ≡ min (most (levels_by (levels_at table)) (block_levels (levels_at table)) (deepest_at table) (plain.statement s)) (2 ^ 64 - 1)
-
-abbrev pub IsDeepestOfOptional : List Span → Option (Box Stmt alloc.Global) → ℕ → Type 0
-IsDeepestOfOptional table s n = n ≡ min (most_perhaps (levels_by (levels_at table)) (block_levels (levels_at table)) (deepest_at table) (plain.perhaps_of s)) (2 ^ 64 - 1)
-
-abbrev pub IsDeepestOfAll : List Span → List Stmt → ℕ → Type 0
-IsDeepestOfAll table list n = n ≡ min (most_all (levels_by (levels_at table)) (block_levels (levels_at table)) (deepest_at table) (plain.statements list)) (2 ^ 64 - 1)
-
-abbrev pub IsDeepestOfBranches : List Span → List Branch → ℕ → Type 0
-IsDeepestOfBranches table list n = n ≡ min (most_branches (levels_by (levels_at table)) (block_levels (levels_at table)) (deepest_at table) (plain.branches list)) (2 ^ 64 - 1)
 
 -- with how a number is kept
 abbrev pub span_by : (ℕ → ℕ) → (ℕ → Span) → Option PlainFunction → Span

@@ -1,163 +1,134 @@
-//! The widest and the deepest of the threads below text, up to the greatest `u64`.
+//! The widest and the deepest of the threads below text, up to the greatest `u64`: one walk for either measure.
 
-ghost use Rattle.std.specs.Prelude.{◌≡◌, ℕ, IfOk};
+ghost use Rattle.std.specs.Prelude.{◌≡◌, ◌-◌, ◌^◌, ℕ, min, IfOk};
+ghost use Rattle.forec_tree.specs.Plain as plain;
+ghost use Rattle.forec_tree.specs.Terms.{count_terms};
 ghost use Rattle.forec_tree.specs.Faults.{Leads};
 ghost use Rattle.forec_tree.specs.Pauses.{callees_of};
 ghost use Rattle.loop_check.specs.Views.{indexed_text};
 ghost use Rattle.forec_check.specs.Table.{Settles};
 ghost use Rattle.text_sizes.specs.Extents.{capped_size};
 ghost use Rattle.text_sizes.specs.Spans as of;
-ghost use Rattle.text_sizes.specs.Spans.{IsWidest, IsWidestOfOptional, IsWidestOfAll, IsWidestOfBranches, IsDeepest, IsDeepestOfOptional, IsDeepestOfAll, IsDeepestOfBranches};
+ghost use Rattle.text_sizes.specs.Measures.{call_by, block_by, below_by, IsMostBelow, IsMostBelowOptional, IsMostBelowAll, IsMostBelowBranches};
 
 use crate::span::{Span, all_slots, arguments, block_levels, no_span, span_of};
 use crate::tally::add;
 use forec_base::OutOfMemory;
-use forec_tree::{Branch, Stmt, StmtKind};
+use forec_tree::{Branch, Expr, Stmt, StmtKind};
 use loop_check::{Index, find_function, order, put, read_calls};
 use std::alloc::Global;
 
-/// The words of the widest thread below a statement.
-#[cycle(widest)]
-fn widest(table: &[Span], s: &Stmt) -> u64
-    ensures { IsWidest table.now s.now result }
+/// What is measured of a thread.
+#[derive(Clone, Copy)]
+pub enum Measure {
+    /// Its words.
+    Words,
+    /// How many statements nest.
+    Levels,
+}
+
+/// The greatest measure of a thread below a function that is inlined.
+fn below(table: &[Span], measure: Measure, id: u32) -> u64
+    ensures { result ≡ min (below_by measure table.now id) (2 ^ 64 - 1) }
+{
+    let known = span_of(table, id);
+    match measure {
+        Measure::Words => known.widest,
+        Measure::Levels => known.deepest,
+    }
+}
+
+/// The measure of a branch that calls a function.
+fn by_name(table: &[Span], measure: Measure, id: u32, args: &[Expr]) -> u64
+    ensures { result ≡ min (call_by measure table.now id (count_terms (plain.terms args.now))) (2 ^ 64 - 1) }
+{
+    let known = span_of(table, id);
+    match measure {
+        Measure::Words => add(arguments(args), known.slots),
+        Measure::Levels => known.levels,
+    }
+}
+
+/// The measure of a branch that is a block.
+fn by_body(table: &[Span], measure: Measure, body: &[Stmt]) -> u64
+    ensures { result ≡ min (block_by measure table.now (plain.statements body.now)) (2 ^ 64 - 1) }
+{
+    match measure {
+        Measure::Words => all_slots(table, body),
+        Measure::Levels => block_levels(table, body),
+    }
+}
+
+/// The greatest measure of a thread below a statement.
+#[cycle(most)]
+fn most(table: &[Span], measure: Measure, s: &Stmt) -> u64
+    ensures { IsMostBelow measure table.now s.now result }
 {
     match &s.what {
-        StmtKind::Group { body } => all_widest(table, body.as_slice()),
-        StmtKind::Call { name, .. } => span_of(table, name.id).widest,
+        StmtKind::Group { body } => all_most(table, measure, body.as_slice()),
+        StmtKind::Call { name, .. } => below(table, measure, name.id),
         StmtKind::If { yes, no, .. } => {
-            let yes = widest(table, yes);
-            yes.max(optional_widest(table, no))
+            let yes = most(table, measure, yes);
+            yes.max(optional_most(table, measure, no))
         }
-        StmtKind::While { body, .. } => widest(table, body),
+        StmtKind::While { body, .. } => most(table, measure, body),
         StmtKind::For {
             start,
             step,
             body,
             ..
         } => {
-            let start = optional_widest(table, start);
-            let step = optional_widest(table, step);
-            start.max(step.max(widest(table, body)))
+            let start = optional_most(table, measure, start);
+            let step = optional_most(table, measure, step);
+            start.max(step.max(most(table, measure, body)))
         }
-        StmtKind::Par { branches } => branches_widest(table, branches.as_slice()),
-        StmtKind::Abort { body, .. } => all_widest(table, body.as_slice()),
+        StmtKind::Par { branches } => branches_most(table, measure, branches.as_slice()),
+        StmtKind::Abort { body, .. } => all_most(table, measure, body.as_slice()),
         _ => 0,
     }
 }
 
-#[cycle(widest)]
-fn optional_widest(table: &[Span], s: &Option<Box<Stmt>>) -> u64
-    ensures { IsWidestOfOptional table.now s.now result }
+#[cycle(most)]
+fn optional_most(table: &[Span], measure: Measure, s: &Option<Box<Stmt>>) -> u64
+    ensures { IsMostBelowOptional measure table.now s.now result }
 {
     match s {
         None => 0,
-        Some(there) => widest(table, there),
+        Some(there) => most(table, measure, there),
     }
 }
 
-#[cycle(widest)]
-fn all_widest(table: &[Span], list: &[Stmt]) -> u64
-    ensures { IsWidestOfAll table.now list.now result }
+#[cycle(most)]
+fn all_most(table: &[Span], measure: Measure, list: &[Stmt]) -> u64
+    ensures { IsMostBelowAll measure table.now list.now result }
 {
-    let mut most = 0u64;
+    let mut greatest = 0u64;
     for s in list {
-        most = most.max(widest(table, s));
+        greatest = greatest.max(most(table, measure, s));
     }
-    most
+    greatest
 }
 
-#[cycle(widest)]
-fn branches_widest(table: &[Span], list: &[Branch]) -> u64
-    ensures { IsWidestOfBranches table.now list.now result }
+#[cycle(most)]
+fn branches_most(table: &[Span], measure: Measure, list: &[Branch]) -> u64
+    ensures { IsMostBelowBranches measure table.now list.now result }
 {
-    let mut most = 0u64;
+    let mut greatest = 0u64;
     for branch in list {
         let inside = match branch {
             Branch::Call { name, args } => {
-                let known = span_of(table, name.id);
-                add(arguments(args.as_slice()), known.slots).max(known.widest)
+                let own = by_name(table, measure, name.id, args.as_slice());
+                own.max(below(table, measure, name.id))
             }
             Branch::Group { body, .. } => {
                 let body = body.as_slice();
-                let own = all_slots(table, body);
-                own.max(all_widest(table, body))
+                let own = by_body(table, measure, body);
+                own.max(all_most(table, measure, body))
             }
         };
-        most = most.max(inside);
+        greatest = greatest.max(inside);
     }
-    most
-}
-
-/// How many statements nest in the deepest thread below a statement.
-#[cycle(deepest)]
-fn deepest(table: &[Span], s: &Stmt) -> u64
-    ensures { IsDeepest table.now s.now result }
-{
-    match &s.what {
-        StmtKind::Group { body } => all_deepest(table, body.as_slice()),
-        StmtKind::Call { name, .. } => span_of(table, name.id).deepest,
-        StmtKind::If { yes, no, .. } => {
-            let yes = deepest(table, yes);
-            yes.max(optional_deepest(table, no))
-        }
-        StmtKind::While { body, .. } => deepest(table, body),
-        StmtKind::For {
-            start,
-            step,
-            body,
-            ..
-        } => {
-            let start = optional_deepest(table, start);
-            let step = optional_deepest(table, step);
-            start.max(step.max(deepest(table, body)))
-        }
-        StmtKind::Par { branches } => branches_deepest(table, branches.as_slice()),
-        StmtKind::Abort { body, .. } => all_deepest(table, body.as_slice()),
-        _ => 0,
-    }
-}
-
-#[cycle(deepest)]
-fn optional_deepest(table: &[Span], s: &Option<Box<Stmt>>) -> u64
-    ensures { IsDeepestOfOptional table.now s.now result }
-{
-    match s {
-        None => 0,
-        Some(there) => deepest(table, there),
-    }
-}
-
-#[cycle(deepest)]
-fn all_deepest(table: &[Span], list: &[Stmt]) -> u64
-    ensures { IsDeepestOfAll table.now list.now result }
-{
-    let mut most = 0u64;
-    for s in list {
-        most = most.max(deepest(table, s));
-    }
-    most
-}
-
-#[cycle(deepest)]
-fn branches_deepest(table: &[Span], list: &[Branch]) -> u64
-    ensures { IsDeepestOfBranches table.now list.now result }
-{
-    let mut most = 0u64;
-    for branch in list {
-        let inside = match branch {
-            Branch::Call { name, .. } => {
-                let known = span_of(table, name.id);
-                known.levels.max(known.deepest)
-            }
-            Branch::Group { body, .. } => {
-                let body = body.as_slice();
-                let own = block_levels(table, body);
-                own.max(all_deepest(table, body))
-            }
-        };
-        most = most.max(inside);
-    }
-    most
+    greatest
 }
 
 /// What is known of a function by its text, by its number.
@@ -170,9 +141,9 @@ fn function_span(index: &Index<'_>, table: &[Span], id: u32) -> Span
             let body = function.body.as_slice();
             Span {
                 slots: all_slots(table, body),
-                widest: all_widest(table, body),
+                widest: all_most(table, Measure::Words, body),
                 levels: block_levels(table, body),
-                deepest: all_deepest(table, body),
+                deepest: all_most(table, Measure::Levels, body),
             }
         }
     }

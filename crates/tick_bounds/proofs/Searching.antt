@@ -1,5 +1,6 @@
 -- Whether an ascending list of variables has one, by a binary search; the variables of a thread ascend.
-use Rattle.std.proofs.Common.{ℕ, zero, suc, ◌<◌, ◌≤◌, ◌≡◌, ◌==◌, nat_lt, ◌&&◌, Bool, true, false, cond, Result, Ok, Err, List, [], ◌∷◌, length, map, get_or, refl, ap, sym, arith}
+use Rattle.std.proofs.Common.{ℕ, zero, suc, ◌<◌, ◌≤◌, ◌≡◌, ◌==◌, nat_lt, Bool, true, false, cond, Result, Ok, Err, List, [], ◌∷◌, length, map, get_or, refl, ap, sym, arith}
+use Rattle.std.proofs.lemmas.Bool.{and_parts}
 use Rattle.std.proofs.lemmas.Bool.Decides.{nat_tests}
 use Rattle.std.proofs.lemmas.List.Sorted.{searched}
 use Rattle.std.specs.Prelude.{is_ok, MatchResult}
@@ -40,14 +41,6 @@ uses_missing (y ∷ ys) (suc t) l = uses_missing ys t (omega arith)
 
 -- ---- ascending numbers from one on
 
-and_left : (a b : Bool) → (a && b) ≡ true → a ≡ true
-and_left true b e = refl
-and_left false b e = cc
-
-and_right : (a b : Bool) → (a && b) ≡ true → b ≡ true
-and_right true b e = e
-and_right false b e = cc
-
 abbrev Sorted : ℕ → List ℕ → Type 0
 Sorted from [] = Unit {0}
 Sorted from (u ∷ us) = (from ≤ u) × Sorted (suc u) us
@@ -60,8 +53,9 @@ sorted : (from : ℕ) (us : List ℕ) → Begins from us → ascends us ≡ true
 sorted from [] h e = tt
 sorted from (a ∷ []) h e = (h, tt)
 sorted from (a ∷ b ∷ rest) h e =
-    let less : suc a ≤ b = let x = and_left (nat_lt a b) (ascends (b ∷ rest)) e in grind (arith, nat_tests) in
-    (h, sorted (suc a) (b ∷ rest) less (and_right (nat_lt a b) (ascends (b ∷ rest)) e))
+    let both = and_parts (nat_lt a b) (ascends (b ∷ rest)) e in
+    let less : suc a ≤ b = let x = both.0 in grind (arith, nat_tests) in
+    (h, sorted (suc a) (b ∷ rest) less both.1)
 
 begins : (us : List ℕ) → Begins 0 us
 begins [] = tt

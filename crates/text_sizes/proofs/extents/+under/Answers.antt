@@ -3,6 +3,7 @@ use Rattle.forec_tree.proofs.Rows.{of_group, of_abort, of_par}
 use Rattle.loop_check.proofs.Branches.{call_first, group_first}
 use Rattle.text_sizes.specs.TermCounts.{under, under_branches}
 use Rattle.text_sizes.specs.Extents.{own_at, under_at}
+use Rattle.text_sizes.proofs.Nearby.{again}
 use Rattle.text_sizes.proofs.extents.+under.Goals as goal
 use Rattle.text_sizes.proofs.extents.+under.Goals.{branches_under-in-Call, branches_under-in-Group}
 
@@ -26,9 +27,6 @@ under-returns-in-Abort t c =
 one_more : (total inside next a b x y rest all : ℕ) → inside ≡ min (a + b) (2 ^ 64 - 1) → min a (2 ^ 64 - 1) ≡ min x (2 ^ 64 - 1) → min b (2 ^ 64 - 1) ≡ min y (2 ^ 64 - 1) → next ≡ min (total + inside) (2 ^ 64 - 1) →
     all ≡ (x + y) + rest → min (next + rest) (2 ^ 64 - 1) ≡ min (total + all) (2 ^ 64 - 1)
 one_more total inside next a b x y rest all e d f g h = omega arith
-
-again : (a b : ℕ) → a ≡ min b (2 ^ 64 - 1) → min a (2 ^ 64 - 1) ≡ min b (2 ^ 64 - 1)
-again a b h = omega arith
 
 pub branches_under-loop-branch-preserved : goal.branches_under-loop-branch-preserved
 branches_under-loop-branch-preserved t c =
