@@ -344,6 +344,12 @@ module _ (c : PlainCode) (h : Thread) (l : Loaded c h) (joining : h.phase ≡ ph
 
     -- ---- after the function, or without one
 
+    abbrev with_joining : Thread → List Fold → Thread
+    with_joining t js = record { number = t.number; phase = t.phase; function = t.function; at = t.at; stack = t.stack; own = t.own; units = t.units; allowance = t.allowance; branches = t.branches; joining = js }
+
+    pub valued : (js : List Fold) → js ≡ slice_set h.joining p (offered_copy x.policy copy F) → (h' : Thread) (combine : Option ℕ) (r : Option ℤ) → Valued c (with_joining h js) h' combine n right r → Valued c called h' combine n right r
+    valued js e h' combine r v = subst (λ js. Valued c (with_joining h js) h' combine n right r) (e ∙ ap (slice_set h.joining p) offered_waits) v
+
     W_at : fold_at (slice_set h.joining p W) p ≡ W
     W_at = get_or-set_same h.joining p W _ within
 
@@ -356,9 +362,6 @@ module _ (c : PlainCode) (h : Thread) (l : Loaded c h) (joining : h.phase ≡ ph
 
     pub long_there : (h' : Thread) (combine : Option ℕ) (m : ℤ) → Valued c called h' combine n right (Some m) → p < length h'.joining
     long_there h' combine m k = let e = ap length (same_joining h' combine m k) in omega (arith, e, length-set h.joining p W, within)
-
-    abbrev with_joining : Thread → List Fold → Thread
-    with_joining t js = record { number = t.number; phase = t.phase; function = t.function; at = t.at; stack = t.stack; own = t.own; units = t.units; allowance = t.allowance; branches = t.branches; joining = js }
 
     joining_is : (h' : Thread) (combine : Option ℕ) (m : ℤ) → Valued c called h' combine n right (Some m) → (js : List Fold) → js ≡ slice_set h'.joining p (fold_value m (fold_at h'.joining p)) → js ≡ slice_set h.joining p (fold_value m W)
     joining_is h' combine m k js e =
