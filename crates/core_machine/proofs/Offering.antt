@@ -20,14 +20,14 @@ use Rattle.core_machine.specs.declared.branches.Verdict.{Verdict}
 use Rattle.core_machine.specs.declared.branches.Verdict.TheVariants as verdict
 use Rattle.core_machine.specs.declared.thread.Thread.{Thread}
 use Rattle.core_machine.specs.declared.thread.Phase.TheVariants as phase
-use Rattle.core_machine.specs.Held.{IsNarrow, HoldsInPhase, Joins, JoinsByVerdict, Combines, FoldsFit, some_use, total_in, totals_in}
+use Rattle.core_machine.specs.Held.{work_of, IsNarrow, HoldsInPhase, Joins, JoinsByVerdict, Combines, FoldsFit, some_use, total_in, totals_in}
 use Rattle.core_machine.specs.Threads.{Loaded, Exceeds}
 use Rattle.core_machine.specs.Merging.{merging_with, calling_machine, with_units, GoesOnJoining, FoldFailsByVerdict, FoldFails, Valued, ComesByVerdict, Combined}
 use Rattle.thread_steps.proofs.Advance.{run_add}
 use Rattle.thread_state.proofs.Indexed.{equal_of, differs_of, place_within, found_at}
 use Rattle.core_machine.proofs.Seeds.{place_is}
 use Rattle.thread_steps.proofs.Steps.{copy_at}
-use Rattle.core_machine.proofs.Reloading.{loaded_as}
+use Rattle.core_machine.proofs.Reloading.{loaded_as, works_as}
 
 pub same_or_not : (a b : ℕ) → (a ≡ b) ⊎ (b ≢ a)
 same_or_not a b = by (a == b) refl
@@ -138,27 +138,7 @@ module _ (c : PlainCode) (h : Thread) (l : Loaded c h) (joining : h.phase ≡ ph
           some = joins.some;
           state = subst (JoinsByVerdict c l.needs (after u f)) (sym going)
               (record {
-                works = record {
-                  at = record {
-                    sound = state.works.at.sound;
-                    here = state.works.at.here;
-                    deep = state.works.at.deep;
-                    bound = state.works.at.bound;
-                    room = state.works.at.room;
-                    counted = state.works.at.counted;
-                    words = state.works.at.words;
-                    counters = state.works.at.counters;
-                    serves = state.works.at.serves;
-                  };
-                  base = state.works.base;
-                  ends = state.works.ends;
-                  need = state.works.need;
-                  enough = state.works.enough;
-                  fits = state.works.fits;
-                  chained = state.works.chained;
-                  inside = state.works.inside;
-                  below = state.works.below;
-                };
+                works = works_as false c h.number l.needs None (work_of h) state.works h.at state.works.at.here h.own state.works.at.serves u;
                 own = state.own;
                 within = le;
                 folds = fit_after u f b q;
