@@ -7,9 +7,10 @@ use Rattle.combine_tree.specs.Joins.{begun, fold_at, result_of}
 use Rattle.thread_code.specs.Plain.{PlainCode}
 use Rattle.thread_code.specs.Machine.{code_uses}
 use Rattle.thread_state.specs.Kept.{PlainOwn, place_in, no_copy, HavePlaces, with_copy_at, with_live_at}
-use Rattle.thread_state.specs.Pars.{Links, used_by}
+use Rattle.thread_state.specs.Pars.{Links, HavePars, used_by}
 use Rattle.core_machine.specs.Held.{copies_of}
 use Rattle.core_machine.specs.Merging.{AreBelow, HaveUses, marked_live, begun_uses, begun_branches, combined_uses, combined_branches}
+use Rattle.thread_state.proofs.Links.{used_count}
 use Rattle.thread_state.proofs.Lists.{drop_next, drop_past}
 
 -- ---- one more element
@@ -112,3 +113,6 @@ pub uses_nth : (c : PlainCode) (k : PlainOwn) (bs : List ℕ) (i : ℕ) → Have
 uses_nth c k [] i h lt = absurd (omega arith)
 uses_nth c k (b ∷ bs) zero h lt = (h.0, h.1)
 uses_nth c k (b ∷ bs) (suc i) h lt = uses_nth c k bs i h.2 (omega arith)
+
+pub uses_within : (c : PlainCode) (k : PlainOwn) (bs : List ℕ) (i : ℕ) → HavePars c.shape k.pars → HaveUses c k bs → i < length bs → get_or bs i 0 < length k.pars.uses
+uses_within c k bs i pars h lt = omega (arith, (uses_nth c k bs i h lt).0, used_count c.shape k.pars pars)

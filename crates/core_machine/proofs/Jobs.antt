@@ -35,13 +35,13 @@ use Rattle.core_machine.specs.declared.thread.Phase.{Phase}
 use Rattle.core_machine.specs.declared.thread.Phase.TheVariants as phase
 use Rattle.core_machine.specs.declared.thread.Event.{Event}
 use Rattle.core_machine.specs.declared.thread.Event.TheVariants as event
-use Rattle.core_machine.specs.Held.{callers, machine_in, machine_of, Works, HoldsInPhase}
+use Rattle.core_machine.specs.Held.{work_of, callers, machine_in, machine_of, Works, HoldsInPhase}
 use Rattle.core_machine.specs.Threads.{Loaded, Exceeds, StandsInPhase, StandsAtMachine, WaitsForReplies, StandsFor, never, since, settling, joining, event_of, HasEvent, passes, reaches, IsResting, RestsInPhase, HasReply, HasPaused, RunsInPhase, CanRun, LeftByEvent, CanBegin, RepliesToLast}
 use Rattle.core_machine.specs.Direct.{RepliesIn, RepliesBy, GivesFor}
 use Rattle.core_machine.specs.RunParts.{HasMachine, CanStop, started_by, woken_by, Begun, Moved, Shown, over, comes, ComesToEvent}
 use Rattle.core_machine.proofs.Outer.{empty_of}
 use Rattle.core_machine.proofs.Told.{all_then, told}
-use Rattle.core_machine.proofs.Reloading.{loaded_as}
+use Rattle.core_machine.proofs.Reloading.{loaded_as, works_as}
 
 length_fresh : (args : List ℤ) (w : ℕ) → length args ≤ w → length (fresh_words args w) ≡ w
 length_fresh [] w h = let n : w - 0 ≡ w = omega arith in ap (λ k. length (replicate k (pos 0))) n ∙ length-replicate w (pos 0)
@@ -142,29 +142,7 @@ module _ (c : PlainCode) (h : Thread) (l : Loaded c h) (asleep : HasPaused h) (p
   woken_serves = record { copies = room.copies; places = l.serves.places; flags = l.serves.flags; live = l.serves.live; pars = l.serves.pars }
 
   woken_works : Works false c h.number l.needs None (work h.at h.stack (with_copies p.copies h.own) 0)
-  woken_works =
-      let w = placed_here.0 in
-      record {
-        at = record {
-          sound = w.at.sound;
-          here = w.at.here;
-          deep = w.at.deep;
-          bound = w.at.bound;
-          room = w.at.room;
-          counted = w.at.counted;
-          words = w.at.words;
-          counters = w.at.counters;
-          serves = woken_serves;
-        };
-        base = w.base;
-        ends = w.ends;
-        need = w.need;
-        enough = w.enough;
-        fits = w.fits;
-        chained = w.chained;
-        inside = λ e. cc;
-        below = w.below;
-      }
+  woken_works = let w = placed_here.0 in works_as false c h.number l.needs None (work_of h) w h.at w.at.here (with_copies p.copies h.own) woken_serves 0
 
   pub wake_begun : p.allowance ≤ 2 ^ 62 → Begun c h woken_thread (woken_by c h p) p.allowance
   wake_begun small =

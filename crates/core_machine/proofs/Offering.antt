@@ -20,14 +20,14 @@ use Rattle.core_machine.specs.declared.branches.Verdict.{Verdict}
 use Rattle.core_machine.specs.declared.branches.Verdict.TheVariants as verdict
 use Rattle.core_machine.specs.declared.thread.Thread.{Thread}
 use Rattle.core_machine.specs.declared.thread.Phase.TheVariants as phase
-use Rattle.core_machine.specs.Held.{IsNarrow, HoldsInPhase, Joins, JoinsByVerdict, Combines, FoldsFit, some_use, total_in, totals_in}
+use Rattle.core_machine.specs.Held.{work_of, IsNarrow, HoldsInPhase, Joins, JoinsByVerdict, Combines, FoldsFit, some_use, total_in, totals_in}
 use Rattle.core_machine.specs.Threads.{Loaded, Exceeds}
 use Rattle.core_machine.specs.Merging.{merging_with, calling_machine, with_units, GoesOnJoining, FoldFailsByVerdict, FoldFails, Valued, ComesByVerdict, Combined}
 use Rattle.thread_steps.proofs.Advance.{run_add}
 use Rattle.thread_state.proofs.Indexed.{equal_of, differs_of, place_within, found_at}
 use Rattle.core_machine.proofs.Seeds.{place_is}
 use Rattle.thread_steps.proofs.Steps.{copy_at}
-use Rattle.core_machine.proofs.Reloading.{loaded_as}
+use Rattle.core_machine.proofs.Reloading.{loaded_as, works_as}
 
 pub same_or_not : (a b : ℕ) → (a ≡ b) ⊎ (b ≢ a)
 same_or_not a b = by (a == b) refl
@@ -138,27 +138,7 @@ module _ (c : PlainCode) (h : Thread) (l : Loaded c h) (joining : h.phase ≡ ph
           some = joins.some;
           state = subst (JoinsByVerdict c l.needs (after u f)) (sym going)
               (record {
-                works = record {
-                  at = record {
-                    sound = state.works.at.sound;
-                    here = state.works.at.here;
-                    deep = state.works.at.deep;
-                    bound = state.works.at.bound;
-                    room = state.works.at.room;
-                    counted = state.works.at.counted;
-                    words = state.works.at.words;
-                    counters = state.works.at.counters;
-                    serves = state.works.at.serves;
-                  };
-                  base = state.works.base;
-                  ends = state.works.ends;
-                  need = state.works.need;
-                  enough = state.works.enough;
-                  fits = state.works.fits;
-                  chained = state.works.chained;
-                  inside = state.works.inside;
-                  below = state.works.below;
-                };
+                works = works_as false c h.number l.needs None (work_of h) state.works h.at state.works.at.here h.own state.works.at.serves u;
                 own = state.own;
                 within = le;
                 folds = fit_after u f b q;
@@ -344,6 +324,12 @@ module _ (c : PlainCode) (h : Thread) (l : Loaded c h) (joining : h.phase ≡ ph
 
     -- ---- after the function, or without one
 
+    abbrev with_joining : Thread → List Fold → Thread
+    with_joining t js = record { number = t.number; phase = t.phase; function = t.function; at = t.at; stack = t.stack; own = t.own; units = t.units; allowance = t.allowance; branches = t.branches; joining = js }
+
+    pub valued : (js : List Fold) → js ≡ slice_set h.joining p (offered_copy x.policy copy F) → (h' : Thread) (combine : Option ℕ) (r : Option ℤ) → Valued c (with_joining h js) h' combine n right r → Valued c called h' combine n right r
+    valued js e h' combine r v = subst (λ js. Valued c (with_joining h js) h' combine n right r) (e ∙ ap (slice_set h.joining p) offered_waits) v
+
     W_at : fold_at (slice_set h.joining p W) p ≡ W
     W_at = get_or-set_same h.joining p W _ within
 
@@ -356,9 +342,6 @@ module _ (c : PlainCode) (h : Thread) (l : Loaded c h) (joining : h.phase ≡ ph
 
     pub long_there : (h' : Thread) (combine : Option ℕ) (m : ℤ) → Valued c called h' combine n right (Some m) → p < length h'.joining
     long_there h' combine m k = let e = ap length (same_joining h' combine m k) in omega (arith, e, length-set h.joining p W, within)
-
-    abbrev with_joining : Thread → List Fold → Thread
-    with_joining t js = record { number = t.number; phase = t.phase; function = t.function; at = t.at; stack = t.stack; own = t.own; units = t.units; allowance = t.allowance; branches = t.branches; joining = js }
 
     joining_is : (h' : Thread) (combine : Option ℕ) (m : ℤ) → Valued c called h' combine n right (Some m) → (js : List Fold) → js ≡ slice_set h'.joining p (fold_value m (fold_at h'.joining p)) → js ≡ slice_set h.joining p (fold_value m W)
     joining_is h' combine m k js e =

@@ -12,7 +12,7 @@ use Rattle.thread_code.specs.Machine.{Point, Own, Awaited, Machine, Waits, Pause
 use Rattle.thread_code.specs.Alone.{block_of, view_of, machine_units}
 use Rattle.thread_state.specs.Frames.{topmost_arguments, without}
 use Rattle.thread_state.specs.Kept.{PlainOwn, own_of}
-use Rattle.thread_steps.specs.BlockRun.{block_for, owner, Comes, next, Work, work, point_of, machine_at, IsAt, StandsBefore, Forks, Shows, Runs}
+use Rattle.thread_steps.specs.BlockRun.{block_for, owner, next, Work, work, point_of, machine_at, IsAt, StandsBefore, Forks, Shows, Runs}
 use Rattle.thread_steps.specs.declared.block_run.Stop.{Stop}
 use Rattle.thread_steps.specs.declared.block_run.Stop.TheVariants as stop
 use Rattle.core_machine.specs.declared.thread.Thread.{Thread}
@@ -26,7 +26,7 @@ use Rattle.core_machine.specs.declared.fork.ForkAt.{ForkAt}
 use Rattle.core_machine.specs.Forks.{IsFork, IsForkStep}
 use Rattle.core_machine.proofs.BranchLemmas.{starts_name, wakes_name, chosen_are, chosen_few}
 use Rattle.thread_steps.proofs.Steps.{fine}
-use Rattle.core_machine.proofs.Reloading.{loaded_as}
+use Rattle.core_machine.proofs.Reloading.{loaded_as, works_as}
 
 -- ---- lists
 
@@ -136,29 +136,6 @@ fork_own c t g a w at within i is (is_again j to some e) = let f = fine c t g a 
 
 -- ---- the thread goes on
 
-pub works_at : (folding : Bool) (c : PlainCode) (t : ℕ) (needs : List ℕ) (g : Option ℕ) (w : Work) → Works folding c t needs g w → (q : ℕ) → Comes c (block_for c t g) q (length w.frames.stack) → Works folding c t needs g (work q w.frames w.kept w.units)
-works_at folding c t needs g w r q here = record {
-  at = record {
-    sound = r.at.sound;
-    here = here;
-    deep = r.at.deep;
-    bound = r.at.bound;
-    room = r.at.room;
-    counted = r.at.counted;
-    words = r.at.words;
-    counters = r.at.counters;
-    serves = r.at.serves;
-  };
-  base = r.base;
-  ends = r.ends;
-  need = r.need;
-  enough = r.enough;
-  fits = r.fits;
-  chained = r.chained;
-  inside = r.inside;
-  below = r.below;
-}
-
 module _ (folding : Bool) (c : PlainCode) (h : Thread) (l : Loaded c h) (run : h.phase ≡ phase.Running folding) where
   pub works : Works folding c h.number l.needs h.function (work_of h)
   works = subst (HoldsInPhase c l.needs h) run l.placed
@@ -262,7 +239,7 @@ module _ (c : PlainCode) (h : Thread) (l : Loaded c h) (run : h.phase ≡ phase.
 
     pub pause_moved : Moved c h paused
     pause_moved =
-        let w = works_at false c h.number l.needs h.function (work_of h) runs to (next h.at (length h.stack.stack) (instruction.Pause to) to runs.at.here s.is refl) in
+        let w = works_as false c h.number l.needs h.function (work_of h) runs to (next h.at (length h.stack.stack) (instruction.Pause to) to runs.at.here s.is refl) h.own runs.at.serves h.units in
         record {
           loaded = loaded_as c h l paused refl refl refl refl refl l.small l.serves l.units ((subst (λ g. Works false c h.number l.needs g (work to h.stack h.own h.units)) pause_own w, pause_own));
           number = refl;

@@ -16,6 +16,7 @@ use Rattle.thread_code.specs.Machine.{Machine, Waits, awaited, waking, living, s
 use Rattle.thread_code.specs.Alone.{block_of, view_of}
 use Rattle.thread_state.specs.Frames.{topmost_arguments, without}
 use Rattle.thread_state.specs.Kept.{PlainOwn, own_of, place_in, place_of, no_copy, HavePlaces, handed_by, SuitsThread}
+use Rattle.thread_state.specs.Pars.{used_by}
 use Rattle.thread_steps.specs.BlockRun.{work, point_of, machine_at}
 use Rattle.core_machine.specs.declared.thread.Thread.{Thread}
 use Rattle.core_machine.specs.declared.thread.Phase.TheVariants as phase
@@ -31,6 +32,7 @@ use Rattle.core_machine.proofs.Args.{args_are, sum_within}
 use Rattle.core_machine.proofs.Asking.{waits, jobs_are}
 use Rattle.core_machine.proofs.BranchLemmas.{starts_name, wakes_name}
 use Rattle.thread_state.proofs.Indexed.{place_within}
+use Rattle.thread_state.proofs.Links.{used_is, used_count}
 use Rattle.core_machine.proofs.Outer.{Fork_kind, is_fork, is_again, fork_kind, args_act}
 use Rattle.thread_steps.proofs.Steps.{copy_at, got, fine}
 
@@ -176,6 +178,21 @@ module _ (c : PlainCode) (h : Thread) (l : Loaded c h) {n : ℕ} (at : HasSettle
 
     pub is_branch : IsBranch c h.number b
     is_branch = branch_in c h.number bs k w0.branches lt
+
+    -- what it uses, read by its number
+
+    module _ (b' : ℕ) (e : b' ≡ b) where
+      pub branch_within : b' < length h.own.pars.uses
+      branch_within = omega (arith, is_branch.thread, e, used_count c.shape h.own.pars l.serves.pars)
+
+      pub branch_uses : used_by h.own.pars b' ≡ code_uses c b
+      branch_uses = ap (used_by h.own.pars) e ∙ used_is c.shape h.own.pars l.serves.pars b
+
+      pub branch_places : HavePlaces h.own (used_by h.own.pars b')
+      branch_places = subst (HavePlaces h.own) (sym branch_uses) (have_places c h.number h.own l.serves (code_uses c b) is_branch.uses)
+
+      pub branch_copies : (t : Thread) → Loaded c t → t.number ≡ b → length t.own.copies ≡ length (used_by h.own.pars b')
+      branch_copies t l number = l.serves.copies ∙ ap (λ n. length (code_uses c n)) number ∙ sym (ap length branch_uses)
 
     pub values_are : handed_by h.own (code_uses c b) ≡ unmarked_copies (handed c h.number h.own.copies b)
     values_are = handed_are c h.number h.own l.serves (code_uses c b) is_branch.uses

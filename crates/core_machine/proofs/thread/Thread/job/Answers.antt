@@ -1,46 +1,29 @@
-use Rattle.std.proofs.Common.{◌≡◌, ◌-◌, ◌∙◌, refl, sym, ap, subst, arith, length, get_or, false}
+use Rattle.std.proofs.Common.{◌≡◌, ◌-◌, ◌∙◌, refl, sym, ap, subst, length, get_or, false}
 use Rattle.std.specs.Vec.{with_items}
 use Rattle.std.proofs.lemmas.List.{length-map, with_items_is}
 use Rattle.combine_tree.specs.Plain.{plain_packet}
 use Rattle.thread_code.specs.Plain.{plain_code}
-use Rattle.thread_code.specs.Machine.{code_uses}
-use Rattle.thread_state.specs.Kept.{HavePlaces, handed_by, place_in, no_copy}
+use Rattle.thread_state.specs.Kept.{handed_by, place_in, no_copy}
 use Rattle.thread_state.specs.Pars.{used_by}
-use Rattle.thread_state.proofs.Links.{used_is, used_count}
-use Rattle.core_machine.specs.Forks.{branch_at, HasKind}
-use Rattle.core_machine.proofs.Seeds.{is_branch, have_places, job_by}
+use Rattle.core_machine.specs.Forks.{HasKind}
+use Rattle.core_machine.proofs.Seeds.{branch_within, branch_uses, branch_places, job_by}
 use Rattle.core_machine.proofs.thread.Thread.job.Goals as goal
 
 pub hand_down-requires-clause-branch : goal.hand_down-requires-clause-branch
-hand_down-requires-clause-branch c =
-    let h = c.args.self.now in
-    let code = plain_code c.args.code.now in
-    let b = is_branch code h c.requires.loaded c.requires.fork c.args.k c.requires.branch in
-    omega (arith, b.thread, c.at-branch.ensures, used_count code.shape h.own.pars c.requires.loaded.serves.pars)
+hand_down-requires-clause-branch c = branch_within (plain_code c.args.code.now) c.args.self.now c.requires.loaded c.requires.fork c.args.k c.requires.branch c.at-branch.result c.at-branch.ensures
 
 pub hand_down-requires-clause-places : goal.hand_down-requires-clause-places
-hand_down-requires-clause-places c =
-    let h = c.args.self.now in
-    let code = plain_code c.args.code.now in
-    let b = is_branch code h c.requires.loaded c.requires.fork c.args.k c.requires.branch in
-    let used : used_by h.own.pars c.at-branch.result ≡ code_uses code (branch_at h c.args.k) =
-    ap (used_by h.own.pars) c.at-branch.ensures ∙ used_is code.shape h.own.pars c.requires.loaded.serves.pars (branch_at h c.args.k) in
-    subst (HavePlaces h.own) (sym used) (have_places code h.number h.own c.requires.loaded.serves (code_uses code (branch_at h c.args.k)) b.uses)
+hand_down-requires-clause-places c = branch_places (plain_code c.args.code.now) c.args.self.now c.requires.loaded c.requires.fork c.args.k c.requires.branch c.at-branch.result c.at-branch.ensures
 
 pub hand_down-requires-clause-room : goal.hand_down-requires-clause-room
 hand_down-requires-clause-room c =
-    let h = c.args.self.now in
-    let code = plain_code c.args.code.now in
-    let used : used_by h.own.pars c.at-branch.result ≡ code_uses code (branch_at h c.args.k) =
-    ap (used_by h.own.pars) c.at-branch.ensures ∙ used_is code.shape h.own.pars c.requires.loaded.serves.pars (branch_at h c.args.k) in
-    ap length c.deref_mut.ensures.value ∙ ap (λ (v : _). length v.items) c.write_kind.ensures.copies ∙ c.requires.room.copies ∙ sym (ap length used)
+    ap length c.deref_mut.ensures.value ∙ ap (λ (v : _). length v.items) c.write_kind.ensures.copies ∙ c.requires.room.copies ∙ sym (ap length (branch_uses (plain_code c.args.code.now) c.args.self.now c.requires.loaded c.requires.fork c.args.k c.requires.branch c.at-branch.result c.at-branch.ensures))
 
 pub returns-clause-job : goal.returns-clause-job
 returns-clause-job c = λ w e.
     let h = c.args.self.now in
     let code = plain_code c.args.code.now in
-    let used : used_by h.own.pars c.at-branch.result ≡ code_uses code (branch_at h c.args.k) =
-    ap (used_by h.own.pars) c.at-branch.ensures ∙ used_is code.shape h.own.pars c.requires.loaded.serves.pars (branch_at h c.args.k) in
+    let used = branch_uses code h c.requires.loaded c.requires.fork c.args.k c.requires.branch c.at-branch.result c.at-branch.ensures in
     let kinds = subst (λ k. HasKind (plain_code k) h c.args.k c.args.packet.now c.write_kind.new.packet) c.parts-code.ensures.same c.write_kind.ensures in
     let p = c.write_kind.new.packet in
     let q = plain_packet (record p { copies = with_items p.copies c.hand_down.new.copies; allowance = h.allowance - h.units }) in
