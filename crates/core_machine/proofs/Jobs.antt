@@ -1,6 +1,6 @@
 -- How a job begins, and what it leaves.
-use Rattle.std.proofs.Common.{◌≡◌, ◌≢◌, ℕ, zero, suc, ◌+◌, ◌-◌, ◌<◌, ◌≤◌, ◌^◌, List, [], ◌∷◌, ◌++◌, length, map, Some, None, Bool, true, false, refl, sym, ap, ◌∙◌, subst, ⊎_elim, inl, inr, arith}
-use Rattle.std.specs.Prelude.{ℤ, pos, get_or, replicate, ◌↔◌}
+use Rattle.std.proofs.Common.{◌≡◌, ◌≢◌, ℕ, zero, suc, ◌+◌, ◌<◌, ◌≤◌, ◌^◌, List, [], ◌∷◌, ◌++◌, length, map, Some, None, Bool, true, false, refl, sym, ap, ◌∙◌, subst, ⊎_elim, inl, inr, arith}
+use Rattle.std.specs.Prelude.{ℤ, get_or, replicate, ◌↔◌}
 use Rattle.std.proofs.lemmas.Bool.{cases_lt}
 use Rattle.std.proofs.lemmas.List.{length-replicate}
 use Rattle.std.proofs.lemmas.Option.{slice_get-get_or}
@@ -29,7 +29,7 @@ use Rattle.combine_tree.specs.declared.packet.PacketKind.TheVariants as kind
 use Rattle.thread_state.specs.Frames.{Frames, started_frames as started_frames}
 use Rattle.core_machine.specs.Branches.{HoldsReplies}
 use Rattle.thread_state.specs.Kept.{PlainOwn, begun_own as begun_kept, with_copies, SuitsThread}
-use Rattle.thread_steps.specs.BlockRun.{block_for, first, work, point_of}
+use Rattle.thread_steps.specs.BlockRun.{block_for, work, point_of}
 use Rattle.core_machine.specs.declared.thread.Thread.{Thread}
 use Rattle.core_machine.specs.declared.thread.Phase.{Phase}
 use Rattle.core_machine.specs.declared.thread.Phase.TheVariants as phase
@@ -39,16 +39,10 @@ use Rattle.core_machine.specs.Held.{work_of, callers, machine_in, machine_of, Wo
 use Rattle.core_machine.specs.Threads.{Loaded, Exceeds, StandsInPhase, StandsAtMachine, WaitsForReplies, StandsFor, never, since, settling, joining, event_of, HasEvent, passes, reaches, IsResting, RestsInPhase, HasReply, HasPaused, RunsInPhase, CanRun, LeftByEvent, CanBegin, RepliesToLast}
 use Rattle.core_machine.specs.Direct.{RepliesIn, RepliesBy, GivesFor}
 use Rattle.core_machine.specs.RunParts.{HasMachine, CanStop, started_by, woken_by, Begun, Moved, Shown, over, comes, ComesToEvent}
+use Rattle.core_machine.proofs.CallRuns.{length_fresh}
 use Rattle.core_machine.proofs.Outer.{empty_of}
 use Rattle.core_machine.proofs.Told.{all_then, told}
-use Rattle.core_machine.proofs.Reloading.{loaded_as, works_as}
-
-length_fresh : (args : List ℤ) (w : ℕ) → length args ≤ w → length (fresh_words args w) ≡ w
-length_fresh [] w h = let n : w - 0 ≡ w = omega arith in ap (λ k. length (replicate k (pos 0))) n ∙ length-replicate w (pos 0)
-length_fresh (x ∷ args) w h =
-    let n : w - length (x ∷ args) ≡ w - 1 - length args = omega arith in
-    let s : suc (w - 1) ≡ w = omega arith in
-    ap (λ k. suc (length (args ++ replicate k (pos 0)))) n ∙ ap suc (length_fresh args (w - 1) (omega arith)) ∙ s
+use Rattle.core_machine.proofs.Reloading.{loaded_as, works_first, works_as}
 
 -- ---- a Start
 
@@ -87,30 +81,7 @@ module _ (c : PlainCode) (valid : IsValidCode c) (h : Thread) (l : Loaded c h) (
   }
 
   start_works : Works false c h.number l.needs None (work 0 frames kept 0)
-  start_works =
-      let w = length_fresh p.args b.words start_args in
-      let k = length-replicate {A = ℕ} b.counters 0 in
-      record {
-        at = record {
-          sound = is_block.sound;
-          here = first;
-          deep = l.own.deep;
-          bound = l.own.bound;
-          room = omega (arith, l.own.own, l.room);
-          counted = omega arith;
-          words = w;
-          counters = k;
-          serves = serves;
-        };
-        base = 0;
-        ends = omega (arith, w, k);
-        need = l.need;
-        enough = l.own;
-        fits = omega (arith, l.room);
-        chained = refl;
-        inside = λ e. cc;
-        below = refl;
-      }
+  start_works = works_first false c h.number l.needs None frames kept 0 l.need 0 is_block.sound l.own serves refl (length_fresh p.args b.words start_args) (length-replicate {A = ℕ} b.counters 0) (omega arith) (omega (arith, l.room)) refl (λ e. cc) refl
 
   abbrev make : ℕ → ℕ → Machine
   make n k =

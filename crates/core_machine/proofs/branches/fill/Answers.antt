@@ -5,9 +5,9 @@ use Rattle.thread_state.specs.Pars.{Links, first_of, sibling_at, Lead}
 use Rattle.core_machine.specs.Branches.{chosen}
 use Rattle.thread_state.proofs.Shapes.{few_branches}
 use Rattle.core_machine.proofs.Gathering.{chosen_next, chosen_none, one_chosen}
-use Rattle.thread_state.proofs.Links.{ahead, behind_last, left_of, left_falls}
+use Rattle.thread_state.proofs.Links.{Ahead, ahead, behind_last, left_of, left_falls}
 use Rattle.core_machine.proofs.branches.fill.Goals as goal
-use Rattle.core_machine.proofs.branches.fill.Goals.{then-is_chosen, else-is_chosen}
+use Rattle.core_machine.proofs.branches.fill.Goals.{In-Some, then-is_chosen, else-is_chosen}
 
 take_none : (xs : List ℕ) → take 0 xs ≡ []
 take_none [] = refl
@@ -27,31 +27,26 @@ loop-next-init c =
       front = ap (λ l. l ++ chosen c.args.again c.args.own.now.live bs) (take_none c.args.numbers.now);
     }
 
+-- the branch, and those after it
+found : (c : In-Some) → Ahead (plain_shape c.args.shape.now) c.pars-pars.result.now.siblings c.in-Some.branch c.loop-next.invariant.rest
+found c =
+    let inv = c.loop-next.invariant in ahead (plain_shape c.args.shape.now) c.pars-pars.result.now.siblings c.loop-next.next inv.rest c.in-Some.branch inv.lead c.in-Some.is
+
 pub is_chosen-requires : goal.is_chosen-requires
 is_chosen-requires c =
-    let s = plain_shape c.args.shape.now in
-    let p = c.pars-pars.result.now in
-    let inv = c.loop-next.invariant in
-    let a = ahead s p.siblings c.loop-next.next inv.rest c.in-Some.branch inv.lead c.in-Some.is in
+    let a = found (goal.at.is_chosen-requires c).In-Some in
     let n = ap (λ (p : Links). length p.siblings) c.pars-pars.ensures in
     omega (arith, a.link.within, n, c.requires.pars.threads, c.requires.live)
 
 pub next-next-requires : goal.next-next-requires
-next-next-requires c =
-    let s = plain_shape c.args.shape.now in
-    let p = c.pars-pars.result.now in
-    let inv = c.loop-next.invariant in
-    (ahead s p.siblings c.loop-next.next inv.rest c.in-Some.branch inv.lead c.in-Some.is).link.within
+next-next-requires c = (found (goal.at.next-next-requires c).In-Some).link.within
 
 pub loop-next-smaller : goal.loop-next-smaller
 loop-next-smaller c =
-    let s = plain_shape c.args.shape.now in
-    let ss = c.pars-pars.result.now.siblings in
-    let b = c.in-Some.branch in
-    let inv = c.loop-next.invariant in
-    let a = ahead s ss c.loop-next.next inv.rest b inv.lead c.in-Some.is in
-    subst (λ o. left_of s ss o < left_of s ss c.loop-next.next) (sym c.next-next.ensures)
-    (subst (λ o. left_of s ss (sibling_at ss b).next < left_of s ss o) (sym c.in-Some.is) (left_falls s ss b a.rest a.link))
+    let a = found (goal.at.loop-next-smaller c).In-Some in
+    let left = left_of (plain_shape c.args.shape.now) c.pars-pars.result.now.siblings in
+    subst (λ o. left o < left c.loop-next.next) (sym c.next-next.ensures)
+    (subst (λ o. left (sibling_at c.pars-pars.result.now.siblings c.in-Some.branch).next < left o) (sym c.in-Some.is) (left_falls (plain_shape c.args.shape.now) c.pars-pars.result.now.siblings c.in-Some.branch a.rest a.link))
 
 pub loop-next-preserved : goal.loop-next-preserved
 loop-next-preserved c =
@@ -61,7 +56,7 @@ loop-next-preserved c =
     let again = c.args.again in
     let live = c.args.own.now.live in
     let inv = c.loop-next.invariant in
-    let a = ahead s ss c.loop-next.next inv.rest b inv.lead c.in-Some.is in
+    let a = found (goal.at.loop-next-preserved c).In-Some in
     let lead = subst (λ o. Lead s ss o a.rest) (sym c.next-next.ensures) a.lead in
     let numbers = c.loop-next.numbers in
     let n = c.loop-next.count in
