@@ -173,7 +173,7 @@ children_step k m n whole path (suc i) (child t R w c st rest) h e =
 
 -- ---- coming to rest
 
-rests_so : (k : PlainKernel) (m : ℕ) {n whole : ℕ} {One More : ℕ → ℕ → Type 0} (h : Shared n whole One More) (b : ℕ) (R : Text) (w : List ℤ) (c : List VarCopy) (st : Status) (rest : Threads) →
+rests_so : (k : PlainKernel) (m : ℕ) {n whole : ℕ} {One More : ℕ → ℕ → Type 0} (h : Shared n whole One More) (b : ℕ) (R : RunningText) (w : List ℤ) (c : List VarCopy) (st : Status) (rest : Threads) →
     ChildRests k m h.whole1 b R w st → AllRest k m h.whole2 rest → AllRest k m whole (child b R w c st rest)
 rests_so k m h b R w c st rest one more = record { n1 = 0; n2 = 0; whole1 = h.whole1; whole2 = h.whole2; fits = omega arith; wholes = h.wholes; one = one; more = more }
 
