@@ -60,7 +60,8 @@ fn start_local(list: &[Local]) -> Option<Start>
 }
 
 fn start_declared(local: &Local) -> Option<Start>
-    ensures { start_pair result ≡ form.paired_term local.now.name.id (form.single_value local.now.length (plain.terms local.now.values)) }
+    ensures { start_pair result ≡ form.paired_term local.now.name.id
+        (form.single_value local.now.length (plain.terms local.now.values)) }
 {
     if local.length.is_some() {
         return None;
@@ -113,7 +114,8 @@ fn test_term(e: &Expr) -> Option<Test>
 }
 
 fn test_between(op: Binary, left: &Expr, right: &Expr) -> Option<Test>
-    ensures { test_from result ≡ form.test_with op (form.read_of (plain.term left.now)) (form.signed_number (plain.term right.now)) }
+    ensures { test_from result ≡ form.test_with op (form.read_of (plain.term left.now))
+        (form.signed_number (plain.term right.now)) }
 {
     match (read_of(left), signed_number(right)) {
         (Some(id), Some(number)) => Some(Test { id, op, number }),

@@ -30,7 +30,8 @@ fn is_endless(bound: Option<Number>, turns: Option<u32>, pausing: bool) -> bool
 #[cycle(loops)]
 fn judge_statement(pauses: &Pauses<'_>, s: &Stmt, least: &mut Option<Fault>) -> bool
     ensures certain { result ≡ certain (judge_text pauses.now) (plain.statement s.now) }
-    ensures least { least.new ≡ least_from least.old (loops_faults (judge_text pauses.now) (loops_in (plain.statement s.now))) }
+    ensures least { least.new ≡ least_from least.old (loops_faults (judge_text pauses.now)
+        (loops_in (plain.statement s.now))) }
 {
     match &s.what {
         StmtKind::Nothing => false,
@@ -94,8 +95,10 @@ fn judge_optional_statement(
     s: &Option<Box<Stmt>>,
     least: &mut Option<Fault>,
 ) -> bool
-    ensures certain { result ≡ certain_perhaps (judge_text pauses.now) (certain_function (judge_text pauses.now)) (perhaps_of s.now) }
-    ensures least { least.new ≡ least_from least.old (loops_faults (judge_text pauses.now) (loops_in_perhaps (perhaps_of s.now))) }
+    ensures certain { result ≡ certain_perhaps (judge_text pauses.now) (certain_function (judge_text pauses.now))
+        (perhaps_of s.now) }
+    ensures least { least.new ≡ least_from least.old (loops_faults (judge_text pauses.now)
+        (loops_in_perhaps (perhaps_of s.now))) }
 {
     match s {
         None => false,
@@ -105,8 +108,10 @@ fn judge_optional_statement(
 
 #[cycle(loops)]
 fn judge_statements(pauses: &Pauses<'_>, list: &[Stmt], least: &mut Option<Fault>) -> bool
-    ensures certain { result ≡ some_certain (judge_text pauses.now) (certain_function (judge_text pauses.now)) (plain.statements list.now) }
-    ensures least { least.new ≡ least_from least.old (loops_faults (judge_text pauses.now) (loops_in_all (plain.statements list.now))) }
+    ensures certain { result ≡ some_certain (judge_text pauses.now) (certain_function (judge_text pauses.now))
+        (plain.statements list.now) }
+    ensures least { least.new ≡ least_from least.old (loops_faults (judge_text pauses.now)
+        (loops_in_all (plain.statements list.now))) }
 {
     let mut found = false;
     for s in list {
@@ -119,8 +124,10 @@ fn judge_statements(pauses: &Pauses<'_>, list: &[Stmt], least: &mut Option<Fault
 
 #[cycle(loops)]
 fn judge_branches(pauses: &Pauses<'_>, list: &[Branch], least: &mut Option<Fault>) -> bool
-    ensures certain { result ≡ branch_certain (judge_text pauses.now) (certain_function (judge_text pauses.now)) (plain.branches list.now) }
-    ensures least { least.new ≡ least_from least.old (loops_faults (judge_text pauses.now) (loops_in_branches (plain.branches list.now))) }
+    ensures certain { result ≡ branch_certain (judge_text pauses.now) (certain_function (judge_text pauses.now))
+        (plain.branches list.now) }
+    ensures least { least.new ≡ least_from least.old (loops_faults (judge_text pauses.now)
+        (loops_in_branches (plain.branches list.now))) }
 {
     let mut found = false;
     for branch in list {
@@ -139,7 +146,8 @@ fn judge_branches(pauses: &Pauses<'_>, list: &[Branch], least: &mut Option<Fault
 /// One walk over the text judges each statement once; the form of a `for` is looked for in its body,
 /// which costs a look at it for each `for` round it.
 pub fn judge_loops(pauses: &Pauses<'_>, items: &[Item], least: &mut Option<Fault>)
-    ensures { least.new ≡ least_from least.old (loops_faults (judge_text pauses.now) (all_loops (map plain.plain_item items.now))) }
+    ensures { least.new ≡ least_from least.old (loops_faults (judge_text pauses.now)
+        (all_loops (map plain.plain_item items.now))) }
 {
     for item in items {
         match item {
