@@ -12,6 +12,7 @@ pub struct Setup<W: Work> {
     pub blanks: Snapshot<Vec<W::Packet>>,
 }
 
+/// What holds of a mailbox as long as it stands: the rule of the table in which its two words are kept.
 pub struct MailRule<W> {
     work: PhantomData<W>,
 }

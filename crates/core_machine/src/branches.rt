@@ -184,12 +184,14 @@ impl Branches {
         self.units
     }
 
+    /// How the branches joined so far have ended together.
     pub fn verdict(&self) -> Verdict
         ensures { result ≡ self.now.verdict }
     {
         self.verdict
     }
 
+    /// Sets how the branches joined so far have ended together.
     pub fn judge(&mut self, verdict: Verdict)
         ensures { self.new ≡ with_verdict verdict self.old }
     {
