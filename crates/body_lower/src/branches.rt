@@ -42,8 +42,8 @@ fn branch<'p>(
     one: &'p Branch,
 ) -> Result<Launch, OutOfMemory>
     requires { OneText context.now.source.now }
-    ensures does { IfOk result (λ k. DoneBranches context.now par (plain.branches (one.now ∷ [])) (kernel.branch k
-        ∷ []) state.old state.new) }
+    ensures does { IfOk result (λ k. DoneBranches context.now par (plain.branches (one.now ∷ []))
+        (kernel.branch k ∷ []) state.old state.new) }
     ensures same { OnOk result (Same state.old.scope state.new.scope) }
 {
     let added = context.source.added_by(one)?;
