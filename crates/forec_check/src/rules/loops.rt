@@ -4,6 +4,8 @@ ghost use Rattle.std.specs.Prelude.{◌≡◌, ◌&&◌, not, map};
 ghost use Rattle.forec_tree.specs.Plain as plain;
 ghost use Rattle.forec_tree.specs.Plain.{perhaps_of};
 ghost use Rattle.forec_tree.specs.Rules as rules;
+ghost use Rattle.forec_tree.specs.Rules.{fault_if};
+ghost use Rattle.forec_tree.specs.Turns.{inferred};
 ghost use Rattle.forec_tree.specs.Pauses.{certain, certain_function, certain_perhaps, some_certain, branch_certain};
 ghost use Rattle.forec_check.specs.Least.{least_from};
 ghost use Rattle.loop_check.specs.Judges.{judge_text};
@@ -23,6 +25,27 @@ fn is_endless(bound: Option<Number>, turns: Option<u32>, pausing: bool) -> bool
         return false;
     }
     !pausing
+}
+
+/// Keeps the fault of a loop that may run for ever, and tells the number of turns of its form.
+fn keep_endless(
+    pauses: &Pauses<'_>,
+    s: &Stmt,
+    bound: Option<Number>,
+    inside: bool,
+    least: &mut Option<Fault>,
+) -> Option<u32>
+    ensures turns { result ≡ inferred (judge_text pauses.now) (plain.statement s.now) }
+    ensures least { least.new ≡ least_from least.old (fault_if (rules.is_none bound && (rules.is_none (inferred (judge_text pauses.now) (plain.statement s.now)) && not inside)) s.now.place 20) }
+{
+    let turns = pauses.turns(s);
+    keep_fault(
+        least,
+        is_endless(bound, turns, inside),
+        s.place,
+        rule::ENDLESS_LOOP,
+    );
+    turns
 }
 
 /// Keeps the least fault of the loops in a statement, those inside first, and tells whether the
@@ -46,13 +69,7 @@ fn judge_statement(pauses: &Pauses<'_>, s: &Stmt, least: &mut Option<Fault>) -> 
         }
         StmtKind::While { test, bound, body } => {
             let inside = judge_statement(pauses, body, least);
-            let turns = pauses.turns(s);
-            keep_fault(
-                least,
-                is_endless(*bound, turns, inside),
-                s.place,
-                rule::ENDLESS_LOOP,
-            );
+            let _ = keep_endless(pauses, s, *bound, inside, least);
             is_nonzero(test) && inside
         }
         StmtKind::For {
@@ -65,13 +82,7 @@ fn judge_statement(pauses: &Pauses<'_>, s: &Stmt, least: &mut Option<Fault>) -> 
             let _ = judge_optional_statement(pauses, start, least);
             let _ = judge_optional_statement(pauses, step, least);
             let inside = judge_statement(pauses, body, least);
-            let turns = pauses.turns(s);
-            keep_fault(
-                least,
-                is_endless(*bound, turns, inside),
-                s.place,
-                rule::ENDLESS_LOOP,
-            );
+            let turns = keep_endless(pauses, s, *bound, inside, least);
             let runs = always(test) || at_least_one(turns);
             runs && inside
         }
