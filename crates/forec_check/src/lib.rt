@@ -15,5 +15,4 @@ mod walk;
 pub use check_fault::CheckFault;
 pub use checked::Checked;
 pub use front::check;
-pub use rules::items::{is_input, is_output};
 pub use scopes::declarations::Declarations;

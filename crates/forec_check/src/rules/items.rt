@@ -90,8 +90,8 @@ pub fn is_input(kind: GlobalKind) -> bool
     }
 }
 
-/// Whether a global is an output, plain or shared.
-pub fn is_output(kind: GlobalKind) -> bool
+/// An output, plain or shared.
+fn is_output(kind: GlobalKind) -> bool
     ensures { result ≡ rules.is_output kind }
 {
     match kind {

@@ -36,7 +36,9 @@ fn keep_endless(
     least: &mut Option<Fault>,
 ) -> Option<u32>
     ensures turns { result ≡ inferred (judge_text pauses.now) (plain.statement s.now) }
-    ensures least { least.new ≡ least_from least.old (fault_if (rules.is_none bound && (rules.is_none (inferred (judge_text pauses.now) (plain.statement s.now)) && not inside)) s.now.place 20) }
+    ensures least { least.new ≡ least_from least.old
+        (fault_if (rules.is_none bound
+        && (rules.is_none (inferred (judge_text pauses.now) (plain.statement s.now)) && not inside)) s.now.place 20) }
 {
     let turns = pauses.turns(s);
     keep_fault(
