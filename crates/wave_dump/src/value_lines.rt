@@ -51,7 +51,8 @@ fn read_value(bytes: &[u8], at: usize, left: &Left<'_>) -> Result<Found, WaveFau
     ensures goes { (names : List (List ℕ)) (ticks : List (List ℤ)) (now : List ℤ) → length now ≡ left.now.output
         → Continues result
         (dump_from bytes.now at (Body (spot_with names ticks now (olds_at left.now.first left.now.words.now))))
-        (λ x. dump_from bytes.now x.next (body_behind names ticks now left.now.first left.now.words.now x.output x.word)) }
+        (λ x. dump_from bytes.now x.next (body_behind names ticks now left.now.first left.now.words.now x.output
+        x.word)) }
 {
     let word = number(bytes, at + 1)?;
     if can_have(left.first, left.words, word) {
