@@ -272,8 +272,13 @@ pub fn give(place: Place, value: Box<Expr>) -> Stmt
 
 /// A function; it gives a number or is void.
 pub fn function(name: Name, gives: bool, params: Items<Name>, block: Block) -> Item
-    ensures { plain_item result ≡ IsFunction (record { name = name; gives = gives; params = params; body = in_order
-        (map statement block.body) }) }
+    ensures { plain_item result ≡ IsFunction (record {
+      name = name;
+      gives = gives;
+      params = params;
+      body = in_order
+          (map statement block.body);
+    }) }
 {
     let Block { place: _, body } = block;
     Item::Function {
