@@ -276,8 +276,7 @@ pub fn function(name: Name, gives: bool, params: Items<Name>, block: Block) -> I
       name = name;
       gives = gives;
       params = params;
-      body = in_order
-          (map statement block.body);
+      body = in_order (map statement block.body);
     }) }
 {
     let Block { place: _, body } = block;
