@@ -9,25 +9,13 @@ use Rattle.forec_tree.specs.Plain.{term, terms, term_at}
 use Rattle.forec_tree.specs.Terms.{Text}
 use Rattle.forec_tree.proofs.Rows.{term-call}
 use Rattle.forec_kernel.specs.Terms as kernel
-use Rattle.forec_kernel.specs.Terms.{Expr, Exprs, no_exprs, more_exprs}
+use Rattle.forec_kernel.specs.Terms.{Exprs, more_exprs}
 use Rattle.forec_kernel.specs.Plain.{expr, exprs}
 use Rattle.forec_kernel.specs.declared.terms.Expression.{Expression, Call}
-use Rattle.forec_kernel.proofs.VecTerms.{expr-call}
+use Rattle.forec_kernel.proofs.VecTerms.{expr-call, joined, joined_none, pushed}
 use Rattle.text_kernel.specs.declared.names.Slot.{Slot}
 use Rattle.text_kernel.specs.Bindings.{number_among, is_int_function}
 use Rattle.text_kernel.specs.Lowering.{lower_term, lower_terms}
-
-abbrev pub joined : Exprs → Exprs → Exprs
-joined no_exprs b = b
-joined (more_exprs e a) b = more_exprs e (joined a b)
-
-pub joined_none : (a : Exprs) → joined a no_exprs ≡ a
-joined_none no_exprs = refl
-joined_none (more_exprs e a) = ap (more_exprs e) (joined_none a)
-
-pub pushed : (xs : List Expression) (x : Expression) (rest : Exprs) → joined (exprs (xs ++ x ∷ [])) rest ≡ joined (exprs xs) (more_exprs (expr x) rest)
-pushed [] x rest = refl
-pushed (y ∷ xs) x rest = ap (more_exprs (expr y)) (pushed xs x rest)
 
 module _ (text : Text) (s : List Slot) where
   pub terms_step : (items : List tree.Expr) (i : ℕ) (a : tree.Expr) (xs ys : List Expression) (x : Expression) (whole : Exprs) →

@@ -146,7 +146,8 @@ fn of_list(table: &[Option<Added>], list: &[Stmt]) -> Result<Added, OutOfMemory>
 /// Out of memory, also where it adds more threads than 32 bits hold.
 #[cycle(added)]
 pub fn of_branch(table: &[Option<Added>], one: &Branch) -> Result<Added, OutOfMemory>
-    ensures { IfOk result (λ a. (text : Text) → AllAdd text table.now → BranchesAdd text (plain.branches (one.now ∷ [])) a) }
+    ensures { IfOk result (λ a. (text : Text) → AllAdd text table.now
+        → BranchesAdd text (plain.branches (one.now ∷ [])) a) }
 {
     let thread = Added {
         threads: 1,
@@ -183,7 +184,8 @@ fn of_branches(table: &[Option<Added>], list: &[Branch]) -> Result<Added, OutOfM
 /// What a `par` adds, itself among them; one without branches adds nothing.
 #[cycle(added)]
 fn of_par(table: &[Option<Added>], list: &[Branch]) -> Result<Added, OutOfMemory>
-    ensures { IfOk result (λ a. (text : Text) → AllAdd text table.now → (at : Place) → StatementAdds text (tree.Par at (plain.branches list.now)) a) }
+    ensures { IfOk result (λ a. (text : Text) → AllAdd text table.now → (at : Place)
+        → StatementAdds text (tree.Par at (plain.branches list.now)) a) }
 {
     if list.is_empty() {
         return Ok(nothing());
@@ -200,7 +202,8 @@ fn of_par(table: &[Option<Added>], list: &[Branch]) -> Result<Added, OutOfMemory
 
 /// What the function of a text adds, which is a call more.
 fn of_function(table: &[Option<Added>], function: &Function) -> Result<Added, OutOfMemory>
-    ensures { IfOk result (λ a. (text : Text) → AllAdd text table.now → BodyAdds text (plain.plain_function function.now) a) }
+    ensures { IfOk result (λ a. (text : Text) → AllAdd text table.now
+        → BodyAdds text (plain.plain_function function.now) a) }
 {
     let body = function.body.as_slice();
     let below = of_list(table, body)?;

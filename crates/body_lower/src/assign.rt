@@ -88,7 +88,8 @@ fn element_by(
     at: &Expr,
     place: Place,
 ) -> Result<Element, OutOfMemory>
-    ensures index { IfOk result (λ e. kernel.expr e.index.value ≡ lowering.lower_term (indexed_text globals.now.index) (seen scope.now) (plain.term at.now)) }
+    ensures index { IfOk result (λ e. kernel.expr e.index.value
+        ≡ lowering.lower_term (indexed_text globals.now.index) (seen scope.now) (plain.term at.now)) }
     ensures again { IfOk result (λ e. kernel.expr e.again.value ≡ kernel.expr e.index.value) }
     ensures place { IfOk result (λ e. e.place ≡ place) }
 {
@@ -147,7 +148,8 @@ fn put_at(
 ) -> Result<Statement, OutOfMemory>
     requires { kernel.expr element.again.value ≡ kernel.expr element.index.value }
     ensures { IfOk result (λ k. kernel.stmt k
-        ≡ lowering.assign_at (st.AsVariables variable length) op (kernel.expr element.index.value) (kernel.expr value.value)
+        ≡ lowering.assign_at (st.AsVariables variable length) op (kernel.expr element.index.value)
+        (kernel.expr value.value)
         element.place) }
 {
     let Element {
@@ -202,7 +204,8 @@ pub fn assign(
     op: Option<OpAt>,
     value: &Expr,
 ) -> Result<Statement, OutOfMemory>
-    ensures { IfOk result (λ k. IsAssigned (indexed_text globals.now.index) (seen scope.now) target.now op value.now (kernel.stmt k)) }
+    ensures { IfOk result (λ k. IsAssigned (indexed_text globals.now.index) (seen scope.now) target.now op value.now
+        (kernel.stmt k)) }
 {
     let to = stands(globals, scope, target.name.id);
     let value = lower_boxed(alloc, globals, scope, value)?;
@@ -242,7 +245,8 @@ fn set_values(
     array: LocalArray,
     values: &[Expr],
 ) -> Result<(), OutOfMemory>
-    ensures { OnOk result (AreSet (indexed_text globals.now.index) (seen scope.now) array values.now list.old.items list.new.items) }
+    ensures { OnOk result (AreSet (indexed_text globals.now.index) (seen scope.now) array values.now list.old.items
+        list.new.items) }
 {
     for (at, value) in values.iter().enumerate() {
         let value = lower_term(alloc, globals, scope, value)?;
@@ -266,7 +270,8 @@ fn lower_local(
     slot: u32,
     local: &Local,
 ) -> Result<Statement, OutOfMemory>
-    ensures { IfOk result (λ k. kernel.stmt k ≡ lowering.lower_local (indexed_text globals.now.index) (seen scope.now) slot (plain.declared local.now)) }
+    ensures { IfOk result (λ k. kernel.stmt k ≡ lowering.lower_local (indexed_text globals.now.index) (seen scope.now)
+        slot (plain.declared local.now)) }
 {
     let values = local.values.as_slice();
     match local.length {
@@ -312,9 +317,12 @@ fn lower_locals(
     slot: &mut u32,
     locals: &[Local],
 ) -> Result<Vec<Statement>, OutOfMemory>
-    ensures list { IfOk result (λ k. AreDeclared (indexed_text globals.now.index) (seen scope.old) slot.old locals.now k.items) }
-    ensures slot { OnOk result (slot.new ≡ lowering.slots_after (indexed_text globals.now.index) slot.old (map plain.declared locals.now)) }
-    ensures seen { OnOk result (seen scope.new ≡ bindings.with_local_slots (seen scope.old) slot.old (map plain.declared locals.now)) }
+    ensures list { IfOk result (λ k. AreDeclared (indexed_text globals.now.index) (seen scope.old) slot.old locals.now
+        k.items) }
+    ensures slot { OnOk result (slot.new ≡ lowering.slots_after (indexed_text globals.now.index) slot.old
+        (map plain.declared locals.now)) }
+    ensures seen { OnOk result (seen scope.new ≡ bindings.with_local_slots (seen scope.old) slot.old
+        (map plain.declared locals.now)) }
     ensures kept { OnOk result (AppendsLocals scope.old scope.new) }
 {
     let mut list = Vec::new(alloc);
@@ -337,8 +345,10 @@ pub fn declare<'p>(
     state: &mut State<'p>,
     locals: &[Local],
 ) -> Result<Statement, OutOfMemory>
-    ensures does { IfOk result (λ k. Done context.now (tree.Declare place (map plain.declared locals.now)) (kernel.stmt k) state.old state.new) }
-    ensures seen { OnOk result (SeenAfter context.now (tree.Declare place (map plain.declared locals.now)) state.old state.new) }
+    ensures does { IfOk result (λ k. Done context.now (tree.Declare place (map plain.declared locals.now))
+        (kernel.stmt k) state.old state.new) }
+    ensures seen { OnOk result (SeenAfter context.now (tree.Declare place (map plain.declared locals.now)) state.old
+        state.new) }
     ensures kept { OnOk result (AppendsLocals state.old.scope state.new.scope) }
 {
     let list = lower_locals(
@@ -359,7 +369,8 @@ pub fn set_params(
     slot: u32,
     args: &[Expr],
 ) -> Result<Vec<Statement>, OutOfMemory>
-    ensures { IfOk result (λ k. kernel.stmts k.items ≡ lowering.set_params (indexed_text globals.now.index) (seen scope.now) slot (plain.terms args.now)) }
+    ensures { IfOk result (λ k. kernel.stmts k.items ≡ lowering.set_params (indexed_text globals.now.index)
+        (seen scope.now) slot (plain.terms args.now)) }
 {
     let mut list = Vec::new(alloc);
     let mut at = slot;

@@ -168,7 +168,8 @@ fn if_statement<'p>(
     no: &'p Option<Box<Stmt>>,
 ) -> Result<Statement, OutOfMemory>
     requires { OneText context.now.source.now }
-    ensures does { IfOk result (λ k. DoneIf context.now test.now yes.now (perhaps_of no.now) (kernel.stmt k) state.old state.new) }
+    ensures does { IfOk result (λ k. DoneIf context.now test.now yes.now (perhaps_of no.now) (kernel.stmt k) state.old
+        state.new) }
     ensures same { OnOk result (Same state.old.scope state.new.scope) }
 {
     let yes = boxed_inner(context, fuel, state, yes)?;
@@ -187,7 +188,8 @@ fn while_statement<'p>(
     body: &'p Stmt,
 ) -> Result<Statement, OutOfMemory>
     requires { OneText context.now.source.now }
-    ensures does { IfOk result (λ k. Done context.now (while_of head.entry body.now) (kernel.stmt k) state.old state.new) }
+    ensures does { IfOk result (λ k. Done context.now (while_of head.entry body.now) (kernel.stmt k) state.old
+        state.new) }
     ensures same { OnOk result (Same state.old.scope state.new.scope) }
 {
     let body = boxed_inner(context, fuel, state, body)?;
@@ -218,7 +220,8 @@ fn for_statement<'p>(
 ) -> Result<Statement, OutOfMemory>
     requires text { OneText context.now.source.now }
     requires turns { turns ≡ turns_of (context_text context.now) head body.now }
-    ensures does { IfOk result (λ k. Done context.now (for_of head.entry body.now) (kernel.stmt k) state.old state.new) }
+    ensures does { IfOk result (λ k. Done context.now (for_of head.entry body.now) (kernel.stmt k) state.old
+        state.new) }
     ensures same { OnOk result (Same state.old.scope state.new.scope) }
 {
     let len = state.scope.len();
@@ -250,7 +253,8 @@ fn call<'p>(
     args: &[Expr],
 ) -> Result<Statement, OutOfMemory>
     requires { OneText context.now.source.now }
-    ensures does { IfOk result (λ k. Done context.now (tree.Invoke place name (plain.terms args.now)) (kernel.stmt k) state.old state.new) }
+    ensures does { IfOk result (λ k. Done context.now (tree.Invoke place name (plain.terms args.now)) (kernel.stmt k)
+        state.old state.new) }
     ensures same { OnOk result (Same state.old.scope state.new.scope) }
 {
     let first = state.slot;
@@ -333,7 +337,8 @@ fn landed<'p>(
 ) -> Result<Statement, OutOfMemory>
     requires text { OneText context.now.source.now }
     requires calls { calls ≤ context.now.deep }
-    ensures does { IfOk result (λ k. DoneLanded context.now calls (plain.statement s.now) (kernel.stmt k) state.old state.new) }
+    ensures does { IfOk result (λ k. DoneLanded context.now calls (plain.statement s.now) (kernel.stmt k) state.old
+        state.new) }
     ensures same { OnOk result (Same state.old.scope state.new.scope) }
 {
     let below = Context {
@@ -357,7 +362,8 @@ fn boxed_inner<'p>(
     s: &'p Stmt,
 ) -> Result<Box<Statement>, OutOfMemory>
     requires { OneText context.now.source.now }
-    ensures does { IfOk result (λ k. Done context.now (plain.statement s.now) (kernel.stmt k.value) state.old state.new) }
+    ensures does { IfOk result (λ k. Done context.now (plain.statement s.now) (kernel.stmt k.value) state.old
+        state.new) }
     ensures same { OnOk result (Same state.old.scope state.new.scope) }
 {
     let k = inner(context, fuel, state, s)?;
@@ -373,7 +379,8 @@ fn optional_inner<'p>(
     s: &'p Option<Box<Stmt>>,
 ) -> Result<Box<Statement>, OutOfMemory>
     requires { OneText context.now.source.now }
-    ensures does { IfOk result (λ k. DonePerhaps context.now (perhaps_of s.now) (kernel.stmt k.value) state.old state.new) }
+    ensures does { IfOk result (λ k. DonePerhaps context.now (perhaps_of s.now) (kernel.stmt k.value) state.old
+        state.new) }
     ensures same { OnOk result (Same state.old.scope state.new.scope) }
 {
     match s {
@@ -391,7 +398,8 @@ fn optional_statement<'p>(
     s: &'p Option<Box<Stmt>>,
 ) -> Result<Box<Statement>, OutOfMemory>
     requires { OneText context.now.source.now }
-    ensures does { IfOk result (λ k. DonePerhaps context.now (perhaps_of s.now) (kernel.stmt k.value) state.old state.new) }
+    ensures does { IfOk result (λ k. DonePerhaps context.now (perhaps_of s.now) (kernel.stmt k.value) state.old
+        state.new) }
     ensures seen { OnOk result (SeenAfterPerhaps context.now (perhaps_of s.now) state.old state.new) }
     ensures kept { OnOk result (AppendsLocals state.old.scope state.new.scope) }
 {
@@ -413,7 +421,8 @@ pub fn list<'p>(
     body: &'p [Stmt],
 ) -> Result<Vec<Statement>, OutOfMemory>
     requires { OneText context.now.source.now }
-    ensures does { IfOk result (λ k. DoneList context.now (seen state.old.scope) (plain.statements body.now) (kernel.stmts k.items) state.old state.new) }
+    ensures does { IfOk result (λ k. DoneList context.now (seen state.old.scope) (plain.statements body.now)
+        (kernel.stmts k.items) state.old state.new) }
     ensures kept { OnOk result (AppendsLocals state.old.scope state.new.scope) }
 {
     let mut list = Vec::new(context.alloc);
@@ -433,7 +442,8 @@ fn block<'p>(
     body: &'p [Stmt],
 ) -> Result<Statement, OutOfMemory>
     requires { OneText context.now.source.now }
-    ensures does { IfOk result (λ k. DoneAsOne context.now (seen state.old.scope) (plain.statements body.now) (kernel.stmt k) state.old state.new) }
+    ensures does { IfOk result (λ k. DoneAsOne context.now (seen state.old.scope) (plain.statements body.now)
+        (kernel.stmt k) state.old state.new) }
     ensures same { OnOk result (Same state.old.scope state.new.scope) }
 {
     let len = state.scope.len();
@@ -491,7 +501,8 @@ pub fn in_function<'p>(
     function: &'p Function,
 ) -> Result<Statement, OutOfMemory>
     requires { OneText context.now.source.now }
-    ensures does { IfOk result (λ k. DoneFunction context.now (plain.plain_function function.now) first (kernel.stmt k) state.old state.new) }
+    ensures does { IfOk result (λ k. DoneFunction context.now (plain.plain_function function.now) first (kernel.stmt k)
+        state.old state.new) }
     ensures same { OnOk result (Same state.old.scope state.new.scope) }
 {
     let base = state.scope.hide();

@@ -20,7 +20,8 @@ fn arguments(
     state: &State<'_>,
     one: &Branch,
 ) -> Result<Vec<Expression>, OutOfMemory>
-    ensures { IfOk result (λ list. Launches (context_text context.now) (seen state.now.scope) (plain.branches (one.now ∷ [])) (kernel.exprs list.items)) }
+    ensures { IfOk result (λ list. Launches (context_text context.now) (seen state.now.scope)
+        (plain.branches (one.now ∷ [])) (kernel.exprs list.items)) }
 {
     match one {
         Branch::Call { args, .. } => {
@@ -41,7 +42,8 @@ fn branch<'p>(
     one: &'p Branch,
 ) -> Result<Launch, OutOfMemory>
     requires { OneText context.now.source.now }
-    ensures does { IfOk result (λ k. DoneBranches context.now par (plain.branches (one.now ∷ [])) (kernel.branch k ∷ []) state.old state.new) }
+    ensures does { IfOk result (λ k. DoneBranches context.now par (plain.branches (one.now ∷ []))
+        (kernel.branch k ∷ []) state.old state.new) }
     ensures same { OnOk result (Same state.old.scope state.new.scope) }
 {
     let added = context.source.added_by(one)?;
@@ -77,7 +79,8 @@ fn branches<'p>(
     all: &'p [Branch],
 ) -> Result<Vec<Launch>, OutOfMemory>
     requires { OneText context.now.source.now }
-    ensures does { IfOk result (λ k. DoneBranches context.now par (plain.branches all.now) (map kernel.branch k.items) state.old state.new) }
+    ensures does { IfOk result (λ k. DoneBranches context.now par (plain.branches all.now) (map kernel.branch k.items)
+        state.old state.new) }
     ensures same { OnOk result (Same state.old.scope state.new.scope) }
 {
     let mut launches = Vec::new(context.alloc);
@@ -96,7 +99,8 @@ pub fn par<'p>(
     all: &'p [Branch],
 ) -> Result<Statement, OutOfMemory>
     requires { OneText context.now.source.now }
-    ensures does { IfOk result (λ k. Done context.now (tree.Par place (plain.branches all.now)) (kernel.stmt k) state.old state.new) }
+    ensures does { IfOk result (λ k. Done context.now (tree.Par place (plain.branches all.now)) (kernel.stmt k)
+        state.old state.new) }
     ensures same { OnOk result (Same state.old.scope state.new.scope) }
 {
     if all.is_empty() {

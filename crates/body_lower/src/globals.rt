@@ -115,7 +115,8 @@ fn note(
     id: u32,
     counts: KernelIndices,
 ) -> Result<(), OutOfMemory>
-    ensures { OnOk result ((g : ℕ) → slice_index_or before.new.items g None ≡ numbering.put_indices id g counts (slice_index_or before.old.items g None)) }
+    ensures { OnOk result ((g : ℕ) → slice_index_or before.new.items g None
+        ≡ numbering.put_indices id g counts (slice_index_or before.old.items g None)) }
 {
     let at = id as usize;
     'room: while before.len() <= at {

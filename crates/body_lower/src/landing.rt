@@ -85,7 +85,8 @@ fn function_landing<'p>(
     function: &'p Function,
 ) -> Option<Landing<'p>>
     requires { AllLand (indexed_text index.now) table.now }
-    ensures { (id : ℕ) → find_function id (indexed_text index.now) ≡ Some (plain.plain_function function.now) → FunctionLands (indexed_text index.now) id result }
+    ensures { (id : ℕ) → find_function id (indexed_text index.now) ≡ Some (plain.plain_function function.now)
+        → FunctionLands (indexed_text index.now) id result }
 {
     if function.params.len() > 0 {
         return None;

@@ -58,7 +58,8 @@ pub fn then_step(
     body: Box<Statement>,
     next: Box<Statement>,
 ) -> Result<Box<Statement>, OutOfMemory>
-    ensures { IfOk result (λ k. kernel.stmt k.value ≡ lowering.then_step (perhaps_of step.now) (kernel.stmt body.value) (kernel.stmt next.value)) }
+    ensures { IfOk result (λ k. kernel.stmt k.value ≡ lowering.then_step (perhaps_of step.now) (kernel.stmt body.value)
+        (kernel.stmt next.value)) }
 {
     match step {
         None => Ok(body),
@@ -76,7 +77,8 @@ pub fn after_start(
     first: Box<Statement>,
     turned: Box<Statement>,
 ) -> Result<Statement, OutOfMemory>
-    ensures { IfOk result (λ k. kernel.stmt k ≡ lowering.after_start (perhaps_of start.now) (kernel.stmt first.value) (kernel.stmt turned.value)) }
+    ensures { IfOk result (λ k. kernel.stmt k ≡ lowering.after_start (perhaps_of start.now) (kernel.stmt first.value)
+        (kernel.stmt turned.value)) }
 {
     match start {
         None => Ok(Box::into_inner(turned)),

@@ -107,7 +107,8 @@ pub fn lower_term(
     scope: &Scope,
     e: &Expr,
 ) -> Result<Expression, OutOfMemory>
-    ensures { IfOk result (λ k. kernel.expr k ≡ lowering.lower_term (indexed_text globals.now.index) (seen scope.now) (plain.term e.now)) }
+    ensures { IfOk result (λ k. kernel.expr k ≡ lowering.lower_term (indexed_text globals.now.index) (seen scope.now)
+        (plain.term e.now)) }
 {
     match &e.what {
         ExprKind::Number { value } => Ok(Expression::Number { value: *value }),
@@ -166,7 +167,8 @@ pub fn lower_boxed(
     scope: &Scope,
     e: &Expr,
 ) -> Result<Box<Expression>, OutOfMemory>
-    ensures { IfOk result (λ b. kernel.expr b.value ≡ lowering.lower_term (indexed_text globals.now.index) (seen scope.now) (plain.term e.now)) }
+    ensures { IfOk result (λ b. kernel.expr b.value ≡ lowering.lower_term (indexed_text globals.now.index)
+        (seen scope.now) (plain.term e.now)) }
 {
     let term = lower_term(alloc, globals, scope, e)?;
     boxed_term(alloc, term)
@@ -180,7 +182,8 @@ pub fn lower_terms(
     scope: &Scope,
     list: &[Expr],
 ) -> Result<Vec<Expression>, OutOfMemory>
-    ensures { IfOk result (λ k. kernel.exprs k.items ≡ lowering.lower_terms (indexed_text globals.now.index) (seen scope.now) (plain.terms list.now)) }
+    ensures { IfOk result (λ k. kernel.exprs k.items ≡ lowering.lower_terms (indexed_text globals.now.index)
+        (seen scope.now) (plain.terms list.now)) }
 {
     let mut terms = Vec::new(alloc);
     for e in list {

@@ -23,7 +23,8 @@ use std::alloc::Global;
 
 /// How many parameters the function of a name has.
 fn params_of(source: &Source<'_>, id: u32) -> Result<u32, OutOfMemory>
-    ensures { IfOk result (λ n. n ≡ length (lowering.param_names (pauses.find_function id (indexed_text source.now.globals.index)))) }
+    ensures { IfOk result (λ n. n ≡ length (lowering.param_names
+        (pauses.find_function id (indexed_text source.now.globals.index)))) }
 {
     match source.function(id) {
         None => Ok(0),
@@ -39,7 +40,8 @@ fn hidden<'p>(
     body: &'p [Stmt],
 ) -> Result<Statement, OutOfMemory>
     requires { OneText context.now.source.now }
-    ensures does { IfOk result (λ k. DoneAsOne context.now [] (plain.statements body.now) (kernel.stmt k) state.old state.new) }
+    ensures does { IfOk result (λ k. DoneAsOne context.now [] (plain.statements body.now) (kernel.stmt k) state.old
+        state.new) }
     ensures same { OnOk result (Same state.old.scope state.new.scope) }
 {
     let base = state.scope.hide();
@@ -59,7 +61,8 @@ fn calling<'p>(
     requires text { OneText context.now.source.now }
     requires number { state.old.thread ≡ context.now.owner + 1 }
     requires none { state.old.pending.items ≡ [] }
-    ensures { IfOk result (λ t. IsMadeBy context.now one.entry (tree.by_call name (plain.terms args.now) tree.no_branches) t state.old state.new) }
+    ensures { IfOk result (λ t. IsMadeBy context.now one.entry
+        (tree.by_call name (plain.terms args.now) tree.no_branches) t state.old state.new) }
 {
     let params = params_of(context.source, name.id)?;
     let taken = count(args.len())?;
@@ -87,7 +90,8 @@ fn blocking<'p>(
     requires number { state.old.thread ≡ context.now.owner + 1 }
     requires none { state.old.pending.items ≡ [] }
     ensures { IfOk result (λ t. (place : Place) →
-        IsMadeBy context.now one.entry (tree.by_group place (plain.statements body.now) tree.no_branches) t state.old state.new) }
+        IsMadeBy context.now one.entry (tree.by_group place (plain.statements body.now) tree.no_branches) t state.old
+        state.new) }
 {
     state.slot = 0;
     let body = hidden(context, FUEL, state, body)?;
@@ -141,7 +145,8 @@ fn stacked<'p>(
     stack: &mut Vec<Pending<'p>>,
     pending: &mut Vec<Pending<'p>>,
 ) -> Result<(), OutOfMemory>
-    ensures stack { OnOk result ((text : Text) → threads_on text stack.new.items ≡ pending_threads text pending.old.items ++ threads_on text stack.old.items) }
+    ensures stack { OnOk result ((text : Text) → threads_on text stack.new.items
+        ≡ pending_threads text pending.old.items ++ threads_on text stack.old.items) }
     ensures none { OnOk result (pending.new.items ≡ []) }
 {
     while let Some(one) = pending.pop() {
@@ -157,7 +162,8 @@ pub fn threads_below<'p>(
     mut state: State<'p>,
 ) -> Result<Vec<Thread>, OutOfMemory>
     requires { OneText source.now }
-    ensures { IfOk result (λ list. map of_thread list.items ≡ threads_of (indexed_text source.now.globals.index) state.entry) }
+    ensures { IfOk result (λ list. map of_thread list.items ≡ threads_of (indexed_text source.now.globals.index)
+        state.entry) }
 {
     let mut stack = Vec::new(alloc);
     stacked(&mut stack, &mut state.pending)?;

@@ -33,6 +33,20 @@ pub record Shared (n whole : ℕ) (One More : ℕ → ℕ → Type 0) : Type 0 w
   pub one : One n1 whole1
   pub more : More n2 whole2
 
+share_alike : {n whole : ℕ} {One One' More More' : ℕ → ℕ → Type 0} → ((n1 whole1 : ℕ) → One n1 whole1 → One' n1 whole1) →
+    ((n2 whole2 : ℕ) → More n2 whole2 → More' n2 whole2) → Shared n whole One More → Shared n whole One' More'
+share_alike f g h =
+    record {
+      n1 = h.n1;
+      n2 = h.n2;
+      whole1 = h.whole1;
+      whole2 = h.whole2;
+      fits = h.fits;
+      wholes = h.wholes;
+      one = f h.n1 h.whole1 h.one;
+      more = g h.n2 h.whole2 h.more;
+    }
+
 abbrev pub AllWithin : PlainKernel → ℕ → ℕ → ℕ → Threads → Type 0
 AllWithin k m n whole no_threads = Unit {0}
 AllWithin k m n whole (child t R w c st rest) =
@@ -68,16 +82,7 @@ child_fewer k m n whole t R w c (Trapped place trap) h = tt
 all_fewer : (k : PlainKernel) (m n whole : ℕ) (cs : Threads) → AllWithin k (suc m) n whole cs → AllWithin k m n whole cs
 all_fewer k m n whole no_threads h = tt
 all_fewer k m n whole (child t R w c st rest) h =
-    record {
-      n1 = h.n1;
-      n2 = h.n2;
-      whole1 = h.whole1;
-      whole2 = h.whole2;
-      fits = h.fits;
-      wholes = h.wholes;
-      one = child_fewer k m h.n1 h.whole1 t R w c st h.one;
-      more = all_fewer k m h.n2 h.whole2 rest h.more;
-    }
+    share_alike (λ n1 whole1 x. child_fewer k m n1 whole1 t R w c st x) (λ n2 whole2 x. all_fewer k m n2 whole2 rest x) h
 
 rest_fewer : (k : PlainKernel) (m whole t : ℕ) (R : RunningText) (w : List ℤ) (st : Status) → ChildRests k (suc m) whole t R w st →
     ChildRests k m whole t R w st
@@ -90,16 +95,7 @@ rest_fewer k m whole t R w (Trapped place trap) h = h
 all_rest_fewer : (k : PlainKernel) (m whole : ℕ) (cs : Threads) → AllRest k (suc m) whole cs → AllRest k m whole cs
 all_rest_fewer k m whole no_threads h = tt
 all_rest_fewer k m whole (child t R w c st rest) h =
-    record {
-      n1 = h.n1;
-      n2 = h.n2;
-      whole1 = h.whole1;
-      whole2 = h.whole2;
-      fits = h.fits;
-      wholes = h.wholes;
-      one = rest_fewer k m h.whole1 t R w st h.one;
-      more = all_rest_fewer k m h.whole2 rest h.more;
-    }
+    share_alike (λ n1 whole1 x. rest_fewer k m whole1 t R w st x) (λ n2 whole2 x. all_rest_fewer k m whole2 rest x) h
 
 -- ---- a step of one child
 

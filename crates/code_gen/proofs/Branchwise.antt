@@ -11,7 +11,7 @@ use Rattle.forec_kernel.specs.Texts.{Status, RunningText, Threads, no_threads, c
 use Rattle.forec_kernel.specs.Combining.{contains, shares, taking_part, some_marked, Joint, variable_calls, variable_of, combine_of, joined_copy, joined_copies, joint_calls, calls_from, calls_at, calls_in_order}
 use Rattle.thread_code.specs.Machine.{BranchCopy, Total, total_of, settled, shares_of}
 use Rattle.code_gen.proofs.Each.{Each, each_map}
-use Rattle.code_gen.proofs.Columns.{Ascends, not_above, kept, Sized, rest_calls, total_in, total_combined, with_share}
+use Rattle.code_gen.proofs.Columns.{Ascends, above_all, not_above, kept, Sized, rest_calls, total_in, total_combined, with_share}
 
 -- ---- all calls of several variables
 
@@ -26,18 +26,6 @@ flat_at i h (v ∷ vs) = ap (λ l. calls_from i (h v) ++ l) (flat_at i h vs)
 pub flat_same : (g h : ℕ → List Value) (vs : List ℕ) → Each (λ v. g v ≡ h v) vs → flat g vs ≡ flat h vs
 flat_same g h [] e = refl
 flat_same g h (v ∷ vs) e = ap (λ l. l ++ flat g vs) e.0 ∙ ap (λ l. h v ++ l) (flat_same g h vs e.1)
-
--- something that holds of each variable that is contained
-pub each_in : (P : ℕ → Type 0) (vs : List ℕ) → ((v : ℕ) → contains v vs ≡ true → P v) → Each P vs
-each_in P [] h = tt
-each_in P (v ∷ vs) h = (h v (ap (λ b. cond b true (contains v vs)) (itself v)), each_in P vs (λ w m. h w (more w (v == w) m)))
-  where
-    itself : (v : ℕ) → (v == v) ≡ true
-    itself v = grind (arith, nat_tests)
-
-    more : (w : ℕ) (b : Bool) → contains w vs ≡ true → cond b true (contains w vs) ≡ true
-    more w true m = refl
-    more w false m = m
 
 pub in_order_same : (g h : ℕ → List Joint) (vs : List ℕ) (n j : ℕ) → ((i : ℕ) → j ≤ i → Each (λ v. calls_from i (g v) ≡ calls_from i (h v)) vs) → calls_in_order j n (map g vs) ≡ calls_in_order j n (map h vs)
 in_order_same g h vs zero j e = refl
@@ -91,9 +79,6 @@ silent_rest : (g : ℕ → VarCopy → List Value) (v : ℕ) (vs : List ℕ) (ss
 silent_rest g v vs [] a h = tt
 silent_rest g v vs (s ∷ ss) a h = ((λ e. h.0 (ap (λ b. cond b true (contains s.variable vs)) (apart v s.variable a.0).0 ∙ e)), silent_rest g v vs ss a.1 h.1)
 
-above_too : (x : ℕ) (ys : List ℕ) → Each (λ y. x < y) ys → (z : ℕ) → z < x → Each (λ y. z < y) ys
-above_too x ys h z lt = each_map (λ y. x < y) (λ y. z < y) (λ y g. omega (arith, g, lt)) ys h
-
 pub cross : (g : ℕ → VarCopy → List Value) (vs : List ℕ) (ss : List BranchCopy) → Ascends vs → Ascends (variables_of ss) → Silent g vs ss → flat (λ v. from_share g v (share_in ss v)) vs ≡ list_calls g ss
 cross g [] ss av asc h = no_calls g ss h
 cross g (v ∷ vs) ss av asc h = inner ss asc h (λ ss asc h. cross g vs ss av.1 asc h)
@@ -110,12 +95,12 @@ cross g (v ∷ vs) ss av asc h = inner ss asc h (λ ss asc h. cross g vs ss av.1
         -- the share's variable is none of the thread's
         less : s.variable < v → flat (λ v. from_share g v (share_in ss v)) (v ∷ vs) ≡ list_calls g ss → flat (λ v. from_share g v (share_in (s ∷ ss) v)) (v ∷ vs) ≡ list_calls g (s ∷ ss)
         less lt rest =
-            let above : Each (λ w. s.variable < w) (v ∷ vs) = (lt, above_too v vs av.0 s.variable lt) in
+            let above : Each (λ w. s.variable < w) (v ∷ vs) = (lt, above_all v vs av.0 s.variable lt) in
             skip_first g s ss (v ∷ vs) above ∙ rest ∙ ap (λ l. l ++ list_calls g ss) (sym (h.0 (not_above s.variable (v ∷ vs) above)))
 
         more : v < s.variable → flat (λ v. from_share g v (share_in (s ∷ ss) v)) (v ∷ vs) ≡ list_calls g (s ∷ ss)
         more gt =
-            let above : Each (λ w. v < w) (variables_of (s ∷ ss)) = (gt, above_too s.variable (variables_of ss) asc.0 v gt) in
+            let above : Each (λ w. v < w) (variables_of (s ∷ ss)) = (gt, above_all s.variable (variables_of ss) asc.0 v gt) in
             ap (λ x. from_share g v x ++ flat (λ v. from_share g v (share_in (s ∷ ss) v)) vs) (absent v (s ∷ ss) above)
             ∙ ih (s ∷ ss) asc (silent_rest g v vs (s ∷ ss) above h)
 

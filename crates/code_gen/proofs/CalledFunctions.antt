@@ -16,7 +16,7 @@ use Rattle.code_gen.specs.Expressions.{expression_code, expressions_code}
 use Rattle.code_gen.specs.Statements.{Around, Outside, loops, inner, fill_code, turn_code, statement_code, statements_code}
 use Rattle.code_gen.specs.Blocks.{function_block, kernel_code}
 use Rattle.code_gen.proofs.BlockLemmas.{block_at}
-use Rattle.code_gen.proofs.Each.{Each, each_front, each_back, each_map, each_test, test_each}
+use Rattle.code_gen.proofs.Each.{Each, each_front, each_back, each_map, each_both, each_test, test_each}
 use Rattle.code_gen.proofs.Deep.{deep, statement_named}
 
 -- each called function is allowed
@@ -113,10 +113,6 @@ module _ (k : PlainKernel) (fine : WellFormed k) where
       let z : 0 + f ≡ f = omega arith in
       ap (λ (b : PlainBlock). b.steps) (get_or_from_slice_get (kernel_code k).functions f (function_block k (0 + f) (function_body k f)) _ (block_at (function_block k) 0 k.functions f lt) ∙ ap (λ n. function_block k n (function_body k f)) z)
 
-  both : {A : Type 0} → (P Q : A → Type 0) (xs : List A) → Each P xs → Each Q xs → Each (λ x. P x × Q x) xs
-  both P Q [] h g = tt
-  both P Q (x ∷ xs) h g = ((h.0, g.0), both P Q xs h.1 g.1)
-
   -- what is deep enough for the kernel is so for its code
   pub within : (n f : ℕ) → f < length k.functions → deep k n f ≡ true → deep_within (kernel_code k).functions n f ≡ true
   within zero f lt h = cc
@@ -126,7 +122,7 @@ module _ (k : PlainKernel) (fine : WellFormed k) where
       let z : TermScope = record { kernel = k; words = function_words k.shape.functions f; uses = [] } in
       let named = statement_named z true body function.body in
       let calls = each_test (deep k n) (stmt_calls body) h in
-      let good = each_map (λ g. (g < length k.functions) × (deep k n g ≡ true)) (λ g. deep_within (kernel_code k).functions n g ≡ true) (λ g p. within n g p.0 p.1) (stmt_calls body) (both _ _ (stmt_calls body) named calls) in
+      let good = each_map (λ g. (g < length k.functions) × (deep k n g ≡ true)) (λ g. deep_within (kernel_code k).functions n g ≡ true) (λ g p. within n g p.0 p.1) (stmt_calls body) (each_both _ _ (stmt_calls body) named calls) in
       let code = statement_calls (λ g. deep_within (kernel_code k).functions n g ≡ true) k.shape.threads z body Outside 0 function.body good in
       let all = allows_join (λ g. deep_within (kernel_code k).functions n g ≡ true) (statement_code k.shape.threads Outside 0 body) (instruction.Quiet (pos 0) ∷ instruction.Return ∷ []) code tt in
       ap (λ is. list_all (deep_within (kernel_code k).functions n) (called_functions is)) (steps_are f lt) ∙ test_each (deep_within (kernel_code k).functions n) (called_functions (function_block k f body).steps) all

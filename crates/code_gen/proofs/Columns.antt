@@ -1,6 +1,7 @@
 -- The calls of combine functions, variable by variable and branch by branch.
 use Rattle.std.proofs.Common.{◌≡◌, ℕ, suc, ◌+◌, ◌<◌, ◌==◌, nat_lt, List, [], ◌∷◌, ◌++◌, Option, Some, None, Bool, true, false, cond, ◌&&◌, refl, sym, ap, ◌∙◌, subst, arith}
 use Rattle.std.specs.Prelude.{ℤ}
+use Rattle.std.proofs.lemmas.Bool.{and_parts}
 use Rattle.std.proofs.lemmas.Bool.Decides.{nat_tests}
 use Rattle.forec_base.specs.declared.Policy.{Policy}
 use Rattle.forec_kernel.specs.declared.shape.VarCopy.{VarCopy}
@@ -11,7 +12,7 @@ use Rattle.forec_kernel.specs.WellFormed.{ascends}
 use Rattle.forec_kernel.specs.Combining as combining
 use Rattle.forec_kernel.specs.Combining.{contains, shares, takes_part, taking_part, some_marked, Joint, fold_calls, last_value, variable_calls, combined_value, variable_of, combine_of, part_of, joined_copy, joined_copies, joint_calls, calls_from, calls_at, count_threads, calls_in_order, Cost, Costs, Fails, more_cost, cost_of, join_cost}
 use Rattle.thread_code.specs.Machine.{Total, total_of, put_total, no_total, no_totals}
-use Rattle.code_gen.proofs.Each.{Each}
+use Rattle.code_gen.proofs.Each.{Each, each_map}
 
 -- ---- ascending lists
 
@@ -19,19 +20,14 @@ abbrev pub Ascends : List ℕ → Type 0
 Ascends [] = Unit {0}
 Ascends (x ∷ xs) = Each (λ y. x < y) xs × Ascends xs
 
-both_true : (a b : Bool) → (a && b) ≡ true → (a ≡ true) × (b ≡ true)
-both_true true b h = (refl, h)
-both_true false b h = cc
-
-above_all : (x : ℕ) (ys : List ℕ) → Each (λ y. x < y) ys → (z : ℕ) → z < x → Each (λ y. z < y) ys
-above_all x [] h z lt = tt
-above_all x (y ∷ ys) h z lt = (omega (arith, h.0, lt), above_all x ys h.1 z lt)
+pub above_all : (x : ℕ) (ys : List ℕ) → Each (λ y. x < y) ys → (z : ℕ) → z < x → Each (λ y. z < y) ys
+above_all x ys h z lt = each_map (λ y. x < y) (λ y. z < y) (λ y g. omega (arith, g, lt)) ys h
 
 pub ascending : (xs : List ℕ) → ascends xs ≡ true → Ascends xs
 ascending [] h = tt
 ascending (x ∷ []) h = (tt, tt)
 ascending (x ∷ y ∷ rest) h =
-    let b = both_true (nat_lt x y) (ascends (y ∷ rest)) h in
+    let b = and_parts (nat_lt x y) (ascends (y ∷ rest)) h in
     let lt : x < y = grind (arith, nat_tests, b.0) in
     let r = ascending (y ∷ rest) b.1 in
     ((lt, above_all y rest r.0 x lt), r)
@@ -271,44 +267,38 @@ calls_now f p base total (Some d) j ss h = pick (takes_part p base d) f total
         by_value (Gives x u) = rw (same_one j) (ap (λ l. Gives x u ∷ l) (no_fold g j x (taking_part p base ss) later))
         by_value (Raises place trap u) = rw (same_one j) refl
 
--- the calls of later branches, where no call of this one trapped
-pub calls_later : (f : Option (ℤ → ℤ → Value)) (p : Policy) (base : ℤ) (total : Option ℤ) (sh : Option VarCopy) (i j : ℕ) (ss : List combining.Share) → j < i → Each Given (share_calls f p base total sh) →
-    calls_from i (rest_calls f total (taking_part p base (with_share sh j ss))) ≡ calls_from i (rest_calls f (share_total f p base total sh) (taking_part p base ss))
-calls_later f p base total None i j ss lt h = refl
-calls_later f p base total (Some d) i j ss lt h = pick (takes_part p base d) f total h
+-- the calls of later branches and the total of all, where no call of this one trapped
+branch_done : (f : Option (ℤ → ℤ → Value)) (p : Policy) (base : ℤ) (total : Option ℤ) (sh : Option VarCopy) (i j : ℕ) (ss : List combining.Share) → j < i → Each Given (share_calls f p base total sh) →
+    (calls_from i (rest_calls f total (taking_part p base (with_share sh j ss))) ≡ calls_from i (rest_calls f (share_total f p base total sh) (taking_part p base ss)))
+    × (total_in f total (taking_part p base (with_share sh j ss)) ≡ total_in f (share_total f p base total sh) (taking_part p base ss))
+branch_done f p base total None i j ss lt h = (refl, refl)
+branch_done f p base total (Some d) i j ss lt h = pick (takes_part p base d) f total h
   where
     other : (j == i) ≡ false
     other = grind (arith, nat_tests)
 
     pick : (b : Bool) (f : Option (ℤ → ℤ → Value)) (total : Option ℤ) → Each Given (called f b total d.value) →
-        calls_from i (rest_calls f total (cond b (record { from = j; copy = d } ∷ taking_part p base ss) (taking_part p base ss))) ≡ calls_from i (rest_calls f (total_after f b total d.value) (taking_part p base ss))
-    pick false f total h = refl
-    pick true None None h = refl
-    pick true (Some g) None h = refl
-    pick true None (Some m) h = refl
+        (calls_from i (rest_calls f total (cond b (record { from = j; copy = d } ∷ taking_part p base ss) (taking_part p base ss))) ≡ calls_from i (rest_calls f (total_after f b total d.value) (taking_part p base ss)))
+        × (total_in f total (cond b (record { from = j; copy = d } ∷ taking_part p base ss) (taking_part p base ss)) ≡ total_in f (total_after f b total d.value) (taking_part p base ss))
+    pick false f total h = (refl, refl)
+    pick true None None h = (refl, refl)
+    pick true (Some g) None h = (refl, refl)
+    pick true None (Some m) h = (refl, refl)
     pick true (Some g) (Some m) h = by_value (g m d.value) h.0
       where
-        by_value : (v : Value) → Given v → calls_from i (elim v [ Gives m u ↦ record { from = j; gives = Gives m u } ∷ fold_calls g m (taking_part p base ss) | Raises place trap u ↦ record { from = j; gives = Raises place trap u } ∷ [] ]) ≡ calls_from i (fold_calls g (given_or m v) (taking_part p base ss))
-        by_value (Gives x u) h = rw other refl
+        by_value : (v : Value) → Given v →
+            (calls_from i (elim v [ Gives m u ↦ record { from = j; gives = Gives m u } ∷ fold_calls g m (taking_part p base ss) | Raises place trap u ↦ record { from = j; gives = Raises place trap u } ∷ [] ]) ≡ calls_from i (fold_calls g (given_or m v) (taking_part p base ss)))
+            × (elim v [ Gives x u ↦ total_in (Some g) (Some x) (taking_part p base ss) | Raises place trap u ↦ Some m ] ≡ total_in (Some g) (Some (given_or m v)) (taking_part p base ss))
+        by_value (Gives x u) h = (rw other refl, refl)
         by_value (Raises place trap u) h = absurd h
 
--- the total of all branches, by that of this one
+pub calls_later : (f : Option (ℤ → ℤ → Value)) (p : Policy) (base : ℤ) (total : Option ℤ) (sh : Option VarCopy) (i j : ℕ) (ss : List combining.Share) → j < i → Each Given (share_calls f p base total sh) →
+    calls_from i (rest_calls f total (taking_part p base (with_share sh j ss))) ≡ calls_from i (rest_calls f (share_total f p base total sh) (taking_part p base ss))
+calls_later f p base total sh i j ss lt h = (branch_done f p base total sh i j ss lt h).0
+
 pub total_now : (f : Option (ℤ → ℤ → Value)) (p : Policy) (base : ℤ) (total : Option ℤ) (sh : Option VarCopy) (j : ℕ) (ss : List combining.Share) → Each Given (share_calls f p base total sh) →
     total_in f total (taking_part p base (with_share sh j ss)) ≡ total_in f (share_total f p base total sh) (taking_part p base ss)
-total_now f p base total None j ss h = refl
-total_now f p base total (Some d) j ss h = pick (takes_part p base d) f total h
-  where
-    pick : (b : Bool) (f : Option (ℤ → ℤ → Value)) (total : Option ℤ) → Each Given (called f b total d.value) →
-        total_in f total (cond b (record { from = j; copy = d } ∷ taking_part p base ss) (taking_part p base ss)) ≡ total_in f (total_after f b total d.value) (taking_part p base ss)
-    pick false f total h = refl
-    pick true None None h = refl
-    pick true (Some g) None h = refl
-    pick true None (Some m) h = refl
-    pick true (Some g) (Some m) h = by_value (g m d.value) h.0
-      where
-        by_value : (v : Value) → Given v → elim v [ Gives x u ↦ total_in (Some g) (Some x) (taking_part p base ss) | Raises place trap u ↦ Some m ] ≡ total_in (Some g) (Some (given_or m v)) (taking_part p base ss)
-        by_value (Gives x u) h = refl
-        by_value (Raises place trap u) h = absurd h
+total_now f p base total sh j ss h = (branch_done f p base total sh (suc j) j ss (omega arith) h).1
 
 -- what is combined of all
 pub total_combined : (f : Option (ℤ → ℤ → Value)) (base : ℤ) (ss : List combining.Share) → elim (total_in f None ss) [ Some n ↦ n | None ↦ base ] ≡ combined_value f base ss

@@ -9,7 +9,7 @@ use Rattle.forec_kernel.specs.Terms.{Expr, Num, Local, LocalAt, Var, SharedAt, T
 use Rattle.forec_kernel.specs.Shapes.{PlainKernel}
 use Rattle.forec_kernel.specs.Combining.{contains}
 use Rattle.forec_kernel.specs.WellFormed.{TermScope, FineExpr, FineExprs, FineStmt, FineStmts, FineBranches, calls_of, calls_in, branch_calls, stmt_calls, stmts_calls, function_body, Ranked}
-use Rattle.code_gen.proofs.Each.{Each, each_join, each_map, test_each}
+use Rattle.code_gen.proofs.Each.{Each, each_join, each_map, each_both, each_in, test_each}
 
 -- a chain of calls that begins with function f has at most n functions
 abbrev pub deep : PlainKernel → ℕ → ℕ → Bool
@@ -81,17 +81,6 @@ more_member x y rest h = pick (x == y)
     pick true = refl
     pick false = h
 
--- each element that is contained
-each_contained : (P : ℕ → Type 0) (xs : List ℕ) → ((x : ℕ) → contains x xs ≡ true → P x) → Each P xs
-each_contained P [] h = tt
-each_contained P (x ∷ xs) h =
-    let self : (x == x) ≡ true = grind (arith, nat_tests) in
-    (h x (same_member x x xs self), each_contained P xs (λ y m. h y (more_member x y xs m)))
-
-each_both : {A : Type 0} → (P Q : A → Type 0) (xs : List A) → Each P xs → Each Q xs → Each (λ x. P x × Q x) xs
-each_both P Q [] h g = tt
-each_both P Q (x ∷ xs) h g = ((h.0, g.0), each_both P Q xs h.1 g.1)
-
 module _ (k : PlainKernel) (ranked : Ranked k) (named : (f : ℕ) → f < length k.functions → Each (λ g. g < length k.functions) (stmt_calls (function_body k f))) where
   abbrev N : ℕ
   N = length k.functions
@@ -139,7 +128,7 @@ module _ (k : PlainKernel) (ranked : Ranked k) (named : (f : ℕ) → f < length
       test_each (deep k n) calls
       (each_map (λ g. (g < N) × (ranked.rank g < ranked.rank f)) (λ g. deep k n g ≡ true)
       (λ g p. deep_enough n g (f ∷ vs) p.0 (next f vs lt h (ranked.rank g) p.1) (omega (arith, le))) calls
-      (each_both (λ g. g < N) (λ g. ranked.rank g < ranked.rank f) calls (named f lt) (each_contained (λ g. ranked.rank g < ranked.rank f) calls (λ g m. ranked.falls f g lt m))))
+      (each_both (λ g. g < N) (λ g. ranked.rank g < ranked.rank f) calls (named f lt) (each_in (λ g. ranked.rank g < ranked.rank f) calls (λ g m. ranked.falls f g lt m))))
 
   pub all_deep : (f : ℕ) → f < N → deep k N f ≡ true
   unfolding IsDistinct

@@ -1,6 +1,7 @@
 -- The machine combines the branches' copies as the kernel does.
 use Rattle.std.proofs.Common.{◌≡◌, ℕ, suc, ◌+◌, ◌<◌, ◌==◌, List, [], ◌∷◌, ◌++◌, map, Option, Some, None, Bool, true, false, cond, ◌||◌, refl, sym, ap, ◌∙◌, subst, arith}
 use Rattle.std.specs.Prelude.{ℤ, slice_get, replicate}
+use Rattle.std.proofs.Math.Bool.{or_assoc, or-false}
 use Rattle.std.proofs.lemmas.Bool.Decides.{nat_tests}
 use Rattle.forec_kernel.specs.declared.shape.VarCopy.{VarCopy}
 use Rattle.forec_kernel.specs.Shapes.{PlainKernel}
@@ -10,12 +11,12 @@ use Rattle.forec_kernel.specs.Combining as combining
 use Rattle.forec_kernel.specs.Combining.{contains, shares, takes_part, taking_part, some_marked, Joint, variable_of, combine_of, joined_copies, joint_calls, calls_from, calls_at, count_threads, calls_in_order, Cost, Costs, Fails, more_cost, cost_of, join_cost}
 use Rattle.thread_code.specs.Machine.{Point, BranchCopy, Total, Folding, Own, Machine, On, Merges, Trapped, total_of, put_total, no_totals, folded, entered, step}
 use Rattle.code_gen.specs.Blocks.{kernel_code}
-use Rattle.code_gen.proofs.Each.{Each, each_front, each_back}
+use Rattle.code_gen.proofs.Each.{Each, each_front, each_back, each_in}
 use Rattle.code_gen.proofs.Fits.{FitsCall, CallsRun}
 use Rattle.code_gen.proofs.Stretch.{point, Comes, stays, comes_on, comes_at, Yields}
 use Rattle.code_gen.proofs.MachinePoints.{ok}
-use Rattle.code_gen.proofs.Columns.{Ascends, kept, kept_ascends, Sized, none_sized, none_total, put_sized, total_same, total_other, total_outside, called, total_after, given_or, cost_then, cost_append, Given, all_given, rest_calls, total_in, shares_later, with_share, share_calls, share_total, calls_now, calls_later, total_now}
-use Rattle.code_gen.proofs.Branchwise.{flat, flat_at, flat_same, each_in, in_order_same, variables_of, share_in, from_share, list_calls, Silent, cross, branch_shares, child_shares, branch_ascends, first_share, bases, placed, joins, policy, calls_are, final_total, settled_is}
+use Rattle.code_gen.proofs.Columns.{Ascends, not_above, kept, kept_ascends, Sized, none_sized, none_total, put_sized, total_same, total_other, total_outside, called, total_after, given_or, cost_then, cost_append, Given, all_given, rest_calls, total_in, shares_later, with_share, share_calls, share_total, calls_now, calls_later, total_now}
+use Rattle.code_gen.proofs.Branchwise.{flat, flat_at, flat_same, in_order_same, variables_of, share_in, from_share, list_calls, Silent, cross, branch_shares, child_shares, branch_ascends, first_share, bases, placed, joins, policy, calls_are, final_total, settled_is}
 
 module _ (k : PlainKernel) (t : ℕ) (run : CallsRun (kernel_code k) t (ok k) (call k)) (combines : (v f : ℕ) → (variable_of k v).combine ≡ Some f → FitsCall (kernel_code k) (ok k) f 2) (asc : (n : ℕ) → Ascends (uses_of k n)) (o : Own) (back : Point) where
   abbrev U : List ℕ
@@ -195,12 +196,8 @@ module _ (k : PlainKernel) (t : ℕ) (run : CallsRun (kernel_code k) t (ok k) (c
           by_test : (b : Bool) → (s.variable == w) ≡ b → total_of (uses_of k t) totals' w ≡ share_done w (cond b (Some s.copy) (share_in left w)) (total_of (uses_of k t) totals w)
           by_test true is =
               let same : s.variable ≡ w = grind (arith, nat_tests, is) in
-              let fresh : contains w (variables_of left) ≡ false = not_in w (variables_of left) (subst (λ x. Each (λ y. x < y) (variables_of left)) same above) in
+              let fresh : contains w (variables_of left) ≡ false = not_above w (variables_of left) (subst (λ x. Each (λ y. x < y) (variables_of left)) same above) in
               g.others w fresh ∙ subst (λ x. total_of (uses_of k t) totals1 x ≡ share_done x (Some s.copy) (total_of (uses_of k t) totals x)) same (h.own (subst (λ x. contains x K ≡ true) (sym same) m))
-            where
-              not_in : (x : ℕ) (ys : List ℕ) → Each (λ y. x < y) ys → contains x ys ≡ false
-              not_in x [] h = refl
-              not_in x (y ∷ ys) h = let e : (y == x) ≡ false = grind (arith, nat_tests, h.0) in rw e (not_in x ys h.1)
           by_test false is = g.each w m ∙ ap (share_done w (share_in left w)) (h.others w (differ s.variable w is))
 
   branch_runs : (left more : List BranchCopy) (totals : List Total) (u : ℕ) → Ascends (variables_of left) → Sized (uses_of k t) o.copies totals → Merged (at (left ++ more) totals u) u more (Branched left totals) (cost_of (list_calls (now totals) left))
@@ -229,14 +226,6 @@ module _ (k : PlainKernel) (t : ℕ) (run : CallsRun (kernel_code k) t (ok k) (c
   pub record Combined (j : ℕ) (cs : Threads) (totals totals' : List Total) : Type 0 where
     pub sized : Sized (uses_of k t) o.copies totals'
     pub each : (w : ℕ) → contains w K ≡ true → total_of (uses_of k t) totals' w ≡ record { value = total_in (joins k w) (total_of (uses_of k t) totals w).value (taking_part (policy k w) (base w) (shares k w j cs)); marked = (total_of (uses_of k t) totals w).marked || some_marked (shares k w j cs) }
-
-  or_assoc : (a b c : Bool) → ((a || b) || c) ≡ (a || (b || c))
-  or_assoc true b c = refl
-  or_assoc false b c = refl
-
-  or_false : (a : Bool) → a ≡ (a || false)
-  or_false true = refl
-  or_false false = refl
 
   per_variable : (v : ℕ) (sh : Option VarCopy) (x : Total) (j : ℕ) (ss : List combining.Share) → Each Given (share_calls (joins k v) (policy k v) (base v) x.value sh) →
       ◌≡◌ {A = Total} (record { value = total_in (joins k v) (share_done v sh x).value (taking_part (policy k v) (base v) ss); marked = (share_done v sh x).marked || some_marked ss })
@@ -328,7 +317,7 @@ module _ (k : PlainKernel) (t : ℕ) (run : CallsRun (kernel_code k) t (ok k) (c
   pub threads_run : (cs : Threads) (j : ℕ) (totals : List Total) (u : ℕ) → Sized (uses_of k t) o.copies totals → Merged (at (child_shares k cs) totals u) u [] (Combined j cs totals) (cost_of (all_calls j cs totals))
   threads_run no_threads j totals u h =
       let z : u ≡ u + 0 = omega arith in
-      (totals, comes_at (kernel_code k) t (ap (at [] totals) z) (stays (kernel_code k) t _), record { sized = h; each = λ w m. ap (λ b. record { value = (total_of (uses_of k t) totals w).value; marked = b }) (or_false (total_of (uses_of k t) totals w).marked) })
+      (totals, comes_at (kernel_code k) t (ap (at [] totals) z) (stays (kernel_code k) t _), record { sized = h; each = λ w m. ap (λ b. record { value = (total_of (uses_of k t) totals w).value; marked = b }) (sym (or-false (total_of (uses_of k t) totals w).marked)) })
   threads_run (child n R w c st rest) j totals u h =
       let left = branch_shares k n st c in
       let more = child_shares k rest in

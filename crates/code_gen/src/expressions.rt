@@ -17,7 +17,8 @@ pub fn emit_expression(
     steps: &mut Vec<Instruction>,
     expression: &Expression,
 ) -> Result<(), OutOfMemory>
-    ensures { OnOk result (steps.new.items ≡ steps.old.items ++ expression_code (length steps.old.items) (expr expression.now)) }
+    ensures { OnOk result (steps.new.items ≡ steps.old.items
+        ++ expression_code (length steps.old.items) (expr expression.now)) }
 {
     match expression {
         Expression::Number { value } => put(steps, Instruction::Push { value: *value }),
@@ -161,7 +162,8 @@ fn emit_shared_at(
 /// Behind the sides of an `and` or an `or`: the right side becomes 0 or 1. The result is the address that
 /// skips it, where the number of a side that was skipped is pushed.
 fn end_sides(steps: &mut Vec<Instruction>, skipped: i32) -> Result<u32, OutOfMemory>
-    ensures code { OnOk result (steps.new.items ≡ steps.old.items ++ (Truth ∷ Jump (length steps.old.items + 1 + 1 + 1) ∷ Quiet skipped ∷ [])) }
+    ensures code { OnOk result (steps.new.items ≡ steps.old.items
+        ++ (Truth ∷ Jump (length steps.old.items + 1 + 1 + 1) ∷ Quiet skipped ∷ [])) }
     ensures at { IfOk result (λ to. to ≡ length steps.old.items + 1 + 1) }
 {
     let end = address(steps)?;
@@ -177,7 +179,8 @@ pub fn emit_expressions(
     steps: &mut Vec<Instruction>,
     expressions: &[Expression],
 ) -> Result<(), OutOfMemory>
-    ensures { OnOk result (steps.new.items ≡ steps.old.items ++ expressions_code (length steps.old.items) (exprs expressions.now)) }
+    ensures { OnOk result (steps.new.items ≡ steps.old.items
+        ++ expressions_code (length steps.old.items) (exprs expressions.now)) }
 {
     for expression in expressions {
         emit_expression(steps, expression)?;

@@ -26,7 +26,8 @@ fn body_steps(
     threads: &[ThreadShape],
     room: &mut u32,
 ) -> Result<Vec<Instruction>, OutOfMemory>
-    ensures code { IfOk result (λ steps. steps.items ≡ statement_code (map plain_thread threads.now) Outside 0 (stmt body.now)) }
+    ensures code { IfOk result (λ steps. steps.items ≡ statement_code (map plain_thread threads.now) Outside 0
+        (stmt body.now)) }
     ensures room { IfOk result (λ steps. room.old ≡ room.new + (length steps.items + 2)) }
 {
     let mut sizes = Vec::new(alloc);
@@ -136,7 +137,8 @@ fn block_of_thread(
     threads: &[ThreadShape],
     room: &mut u32,
 ) -> Result<Block, OutOfMemory>
-    ensures { IfOk result (λ b. plain_block b ≡ thread_body_block (map plain_thread threads.now) shape.now.params shape.now.words (stmt body.now)) }
+    ensures { IfOk result (λ b. plain_block b ≡ thread_body_block (map plain_thread threads.now) shape.now.params
+        shape.now.words (stmt body.now)) }
 {
     let mut steps = body_steps(alloc, body, threads, room)?;
     put(&mut steps, Instruction::End)?;
@@ -156,7 +158,8 @@ fn block_of_function(
     threads: &[ThreadShape],
     room: &mut u32,
 ) -> Result<Block, OutOfMemory>
-    ensures { IfOk result (λ b. plain_block b ≡ function_body_block (map plain_thread threads.now) shape.now.params shape.now.words (stmt body.now)) }
+    ensures { IfOk result (λ b. plain_block b ≡ function_body_block (map plain_thread threads.now) shape.now.params
+        shape.now.words (stmt body.now)) }
 {
     let mut steps = body_steps(alloc, body, threads, room)?;
     put(&mut steps, Instruction::Quiet { value: 0 })?;
@@ -176,7 +179,8 @@ fn thread_blocks(
     room: &mut u32,
 ) -> Result<Vec<Block>, OutOfMemory>
     requires { length parts.now.threads.items ≡ length parts.now.shape.threads.items }
-    ensures { IfOk result (λ bs. map plain_block bs.items ≡ blocks_from (thread_block (plain_kernel parts.now)) 0 (map stmt parts.now.threads.items)) }
+    ensures { IfOk result (λ bs. map plain_block bs.items ≡ blocks_from (thread_block (plain_kernel parts.now)) 0
+        (map stmt parts.now.threads.items)) }
 {
     let mut blocks = Vec::new(alloc);
     let shapes = &parts.shape.threads;
@@ -193,7 +197,8 @@ fn function_blocks(
     room: &mut u32,
 ) -> Result<Vec<Block>, OutOfMemory>
     requires { length parts.now.functions.items ≡ length parts.now.shape.functions.items }
-    ensures { IfOk result (λ bs. map plain_block bs.items ≡ blocks_from (function_block (plain_kernel parts.now)) 0 (map stmt parts.now.functions.items)) }
+    ensures { IfOk result (λ bs. map plain_block bs.items ≡ blocks_from (function_block (plain_kernel parts.now)) 0
+        (map stmt parts.now.functions.items)) }
 {
     let mut blocks = Vec::new(alloc);
     let shapes = &parts.shape.functions;

@@ -176,7 +176,8 @@ fn abort_size(
     prologue: u32,
 ) -> Result<u32, OutOfMemory>
     ensures size { IfOk result (λ n. n ≡ abort_length checks prologue weak tested (stmt body.now)) }
-    ensures bodies { OnOk result (sizes.new.items ≡ sizes.old.items ++ abort_bodies checks prologue weak tested (stmt body.now)) }
+    ensures bodies { OnOk result (sizes.new.items ≡ sizes.old.items
+        ++ abort_bodies checks prologue weak tested (stmt body.now)) }
 {
     let guarded = add(tested, 1)?;
     let flag = weak as u32;

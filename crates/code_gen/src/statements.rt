@@ -77,7 +77,8 @@ fn emit_prologue(
 ) -> Result<(), OutOfMemory>
     requires counters { counters ≡ loops (plain_around around.now) }
     requires flags { flags ≡ weaks (plain_around around.now) }
-    ensures { OnOk result (steps.new.items ≡ steps.old.items ++ prologue (length steps.old.items) (plain_around around.now)) }
+    ensures { OnOk result (steps.new.items ≡ steps.old.items
+        ++ prologue (length steps.old.items) (plain_around around.now)) }
 {
     match around {
         Around::Outside => Ok(()),
@@ -114,8 +115,10 @@ fn emit_wait(
     steps: &mut Vec<Instruction>,
     surroundings: &Surroundings<'_>,
 ) -> Result<u32, OutOfMemory>
-    ensures code { OnOk result (steps.new.items ≡ steps.old.items ++ wait_code (length steps.old.items) (plain_around surroundings.now.around.now)) }
-    ensures at { IfOk result (λ w. w ≡ length steps.old.items + length (checks (plain_around surroundings.now.around.now)) + 1) }
+    ensures code { OnOk result (steps.new.items ≡ steps.old.items
+        ++ wait_code (length steps.old.items) (plain_around surroundings.now.around.now)) }
+    ensures at { IfOk result (λ w. w ≡ length steps.old.items + length
+        (checks (plain_around surroundings.now.around.now)) + 1) }
 {
     emit_checks(steps, surroundings.around, surroundings.flags)?;
     let wake = address(steps)? + 1;
@@ -133,7 +136,8 @@ fn emit_pause(
     steps: &mut Vec<Instruction>,
     surroundings: &Surroundings<'_>,
 ) -> Result<(), OutOfMemory>
-    ensures { OnOk result (steps.new.items ≡ steps.old.items ++ pause_code (length steps.old.items) (plain_around surroundings.now.around.now)) }
+    ensures { OnOk result (steps.new.items ≡ steps.old.items
+        ++ pause_code (length steps.old.items) (plain_around surroundings.now.around.now)) }
 {
     put(steps, Instruction::Unit { count: 1 })?;
     emit_wait(steps, surroundings)?;
@@ -147,7 +151,8 @@ fn emit_fork(
     par: u32,
     surroundings: &Surroundings<'_>,
 ) -> Result<(), OutOfMemory>
-    ensures { OnOk result (steps.new.items ≡ steps.old.items ++ fork_code par (length steps.old.items) (plain_around surroundings.now.around.now)) }
+    ensures { OnOk result (steps.new.items ≡ steps.old.items
+        ++ fork_code par (length steps.old.items) (plain_around surroundings.now.around.now)) }
 {
     let fork = address(steps)?;
     put(steps, Instruction::Fork { par, to: fork + 2 })?;
@@ -182,7 +187,8 @@ fn number_of(threads: &[ThreadShape], branches: &[Launch]) -> u32
 }
 
 fn emit_arguments(steps: &mut Vec<Instruction>, branches: &[Launch]) -> Result<(), OutOfMemory>
-    ensures { OnOk result (steps.new.items ≡ steps.old.items ++ arguments_code (length steps.old.items) (map branch branches.now)) }
+    ensures { OnOk result (steps.new.items ≡ steps.old.items
+        ++ arguments_code (length steps.old.items) (map branch branches.now)) }
 {
     for launch in branches {
         emit_expressions(steps, &launch.args)?;
@@ -245,7 +251,8 @@ fn emit_entry(
     flag: u32,
     body: u32,
 ) -> Result<u32, OutOfMemory>
-    ensures { IfOk result (λ exit. steps.new.items ≡ steps.old.items ++ entry_code weak immediate flag exit (length steps.old.items) (expr test.now)) }
+    ensures { IfOk result (λ exit. steps.new.items ≡ steps.old.items
+        ++ entry_code weak immediate flag exit (length steps.old.items) (expr test.now)) }
 {
     if immediate {
         emit_expression(steps, test)?;
@@ -285,7 +292,8 @@ impl Emitter {
         surroundings: &Surroundings<'_>,
     ) -> Result<(), OutOfMemory>
         ensures { OnOk result (self.new.steps.items ≡ self.old.steps.items
-            ++ loop_within surroundings.now (length self.old.steps.items) (expr test.now) (optional_instruction turn) (stmt body.now)) }
+            ++ loop_within surroundings.now (length self.old.steps.items) (expr test.now) (optional_instruction turn)
+            (stmt body.now)) }
     {
         let head = address(&self.steps)?;
         emit_expression(&mut self.steps, test)?;
@@ -310,7 +318,8 @@ impl Emitter {
         surroundings: &Surroundings<'_>,
     ) -> Result<(), OutOfMemory>
         ensures { OnOk result (self.new.steps.items ≡ self.old.steps.items
-            ++ code_within surroundings.now (length self.old.steps.items) (While (expr test.now) bound (stmt body.now) place)) }
+            ++ code_within surroundings.now (length self.old.steps.items)
+            (While (expr test.now) bound (stmt body.now) place)) }
     {
         let Some(turns) = bound else {
             return self.emit_loop(body, test, None, surroundings);
@@ -343,7 +352,8 @@ impl Emitter {
         surroundings: &Surroundings<'_>,
     ) -> Result<(), OutOfMemory>
         ensures { OnOk result (self.new.steps.items ≡ self.old.steps.items
-            ++ code_within surroundings.now (length self.old.steps.items) (Enter weak immediate (expr test.now) (stmt body.now))) }
+            ++ code_within surroundings.now (length self.old.steps.items)
+            (Enter weak immediate (expr test.now) (stmt body.now))) }
     {
         let size = self.sizes.pop().ok_or(OutOfMemory)?;
         let flags = surroundings.flags;

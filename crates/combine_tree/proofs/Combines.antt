@@ -1,5 +1,6 @@
 -- Offering copies one after the other is combining them.
 use Rattle.std.proofs.Common.{◌≡◌, ℕ, ℤ, Bool, true, false, ◌||◌, Some, None, List, [], ◌∷◌, map, refl, ap, sym}
+use Rattle.std.proofs.Math.Bool.{or_assoc, or-false}
 use Rattle.forec_base.specs.declared.Place.{Place}
 use Rattle.forec_base.specs.declared.Policy.{Policy}
 use Rattle.forec_base.specs.declared.Trap.{Trap}
@@ -20,14 +21,6 @@ pub record IsFold (f : ℤ → ℤ → Value) (policy : Policy) (base : VarCopy)
   pub value : (result_of (offers f policy (with_total base marked n) ss).fold).value ≡ last_value n (fold_calls f n (taking_part policy base.value ss))
   pub mark : some_stops (fold_calls f n (taking_part policy base.value ss)) ≡ false →
       (result_of (offers f policy (with_total base marked n) ss).fold).modified ≡ (base.modified || (marked || some_marked ss))
-
-or_assoc : (a b c : Bool) → ((a || b) || c) ≡ (a || (b || c))
-or_assoc true b c = refl
-or_assoc false b c = refl
-
-or_false : (a : Bool) → a ≡ (a || false)
-or_false true = refl
-or_false false = refl
 
 -- the next copy takes no part
 passed : (f : ℤ → ℤ → Value) (policy : Policy) (base : VarCopy) (marked : Bool) (n : ℤ) (s : Share) (ss : List Share) →
@@ -65,7 +58,7 @@ is_fold f policy base marked n [] = record {
   pairs = refl;
   calls = refl;
   value = refl;
-  mark = λ _. ap (λ m. base.modified || m) (or_false marked);
+  mark = λ _. ap (λ m. base.modified || m) (sym (or-false marked));
 }
 is_fold f policy base marked n (s ∷ ss) =
     step (takes_part policy base.value s.copy) refl (f n s.copy.value) refl (λ m. is_fold f policy base (marked || s.copy.modified) m ss)
@@ -112,7 +105,7 @@ is_join f policy base marked [] = record {
   pairs = refl;
   calls = refl;
   value = refl;
-  mark = λ _. ap (λ m. base.modified || m) (or_false marked);
+  mark = λ _. ap (λ m. base.modified || m) (sym (or-false marked));
 }
 is_join f policy base marked (s ∷ ss) = step (takes_part policy base.value s.copy) refl (is_join f policy base (marked || s.copy.modified) ss)
   where

@@ -15,7 +15,7 @@ use Rattle.copy_slots.specs.declared.view.Taker.{Taker}
 use Rattle.copy_slots.specs.declared.view.Role.{Role}
 use Rattle.copy_slots.specs.declared.view.Role.TheVariants.{Idle, Keeper, Mailbox}
 use Rattle.copy_slots.specs.declared.view.View.{View}
-use Rattle.copy_slots.specs.Mail.{MailStage, fresh, with_parent, at_child, with_child, at_parent, MailboxState, End, parent_of, child_of, root, owner_of, IsUnderWay, IsAtStage, HeldByChild, SendsAt, TakesAt, KnowsParent, KnowsChild, KnowsRole, Has, IsFresh, IsWithParent, IsAtChild, IsWithChild, IsAtParent, BoxAt, Past, spent, IsSeatView, MailInvariant, posed, sender_opened, sender_got, sender_looked, sender_sent, taker_took, taker_looked, taker_answered, turn_between, opened, collected, offered, took, answered}
+use Rattle.copy_slots.specs.Mail.{MailStage, fresh, with_parent, at_child, with_child, at_parent, MailboxState, End, parent_of, child_of, root, owner_of, IsUnderWay, IsAtStage, HeldByChild, SendsAt, TakesAt, KnowsParent, KnowsChild, KnowsRole, Has, IsFresh, IsWithParent, IsAtChild, IsWithChild, IsAtParent, BoxAt, Past, spent, IsSeatView, MailInvariant, posed, sender_opened, sender_got, sender_looked, sender_sent, taker_took, taker_looked, taker_answered, turn_between, opened, collected, gave, took, gave_back}
 
 module _ {A : Type 0} where
   abbrev pick : {X : Type 0} → Dec X → A → A → A
@@ -343,7 +343,7 @@ module _ {W P Q : Type 0} (plain : P → Q) (asks : W → ℕ → List Q → Typ
 
   -- the parent sends a job
   pub offers : (slots id : ℕ) (me : Me (Option P) (View W Q)) (k : ℕ) (x : Sender Q) (c : Option (Taker Q)) (p : P) → me.0.role ≡ Mailbox k (Some x) c → x.place ≡ Held → (tail : List (ℕ × Option P)) → me.1 ≡ (k, Some p) ∷ tail
-      → (w : W) → me.0.work ≡ Some w → asks w k (x.sent ++ plain p ∷ []) → Allows Rule slots id me k (λ _. 1) (λ _. offered plain (step slots k 1 0 none) me 1)
+      → (w : W) → me.0.work ≡ Some w → asks w k (x.sent ++ plain p ∷ []) → Allows Rule slots id me k (λ _. 1) (λ _. gave plain (step slots k 1 0 none) me 1)
   offers slots id me k x c p is place tail carried w at_work allowed s r deep at _ = let h = knows s r id me.0 (Mailbox k (Some x) c) at is tt in let at_k = h.2.1.1 in let old = r.mail k in let q = plain p in
       let stage : old.stage ≡ with_parent = subst (λ (z : PacketAt). IsAtStage z old.stage) place at_k.place in
       let b : IsWithParent plain asks answers work blanks k old (get_or s.words k 0) (get_elem? s.homes k) = box_of s r k with_parent h.2.0 stage in let past = r.each_past k h.2.0 in
@@ -451,7 +451,7 @@ module _ {W P Q : Type 0} (plain : P → Q) (asks : W → ℕ → List Q → Typ
 
   -- the child sends a reply
   pub answers_job : (slots id : ℕ) (me : Me (Option P) (View W Q)) (k : ℕ) (b : Option (Sender Q)) (y : Taker Q) (p : P) → me.0.role ≡ Mailbox k b (Some y) → y.holds ≡ true → (tail : List (ℕ × Option P)) → me.1 ≡ (k, Some p) ∷ tail
-      → (w : W) → me.0.work ≡ Some w → answers w k y.taken (plain p) → Allows Rule slots id me k (λ _. 0) (λ _. answered plain (step slots k 0 0 none) me 0)
+      → (w : W) → me.0.work ≡ Some w → answers w k y.taken (plain p) → Allows Rule slots id me k (λ _. 0) (λ _. gave_back plain (step slots k 0 0 none) me 0)
   answers_job slots id me k b y p is held tail carried w at_work right s r deep at _ = let h = knows s r id me.0 (Mailbox k b (Some y)) at is tt in let at_k = h.2.2.1 in let old = r.mail k in let q = plain p in
       let stage : old.stage ≡ with_child = subst (λ (z : Bool). HeldByChild z old.stage) held at_k.holds in
       let x : IsWithChild plain asks answers work blanks k old (get_or s.words k 0) (get_elem? s.homes k) = box_of s r k with_child h.2.0 stage in let past = r.each_past k h.2.0 in

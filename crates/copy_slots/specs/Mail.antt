@@ -253,8 +253,8 @@ module _ {W P Q : Type 0} where
       × (found ≢ 0 → (n.0 ≡ posed m.0 (Mailbox st.word (Some (sender_looked x)) c)) × (n.1 ≡ m.1) × (found ≡ 1))
       × ((y : Taker Q) → c ≡ Some y → found ≡ turn_between x y)
 
-  abbrev pub offered : (P → Q) → Step (Option P) → Me (Option P) (View W Q) → ℕ → Me (Option P) (View W Q) → Type 0
-  offered plain st m found n = (x : Sender Q) (c : Option (Taker Q)) (p : P) (cs : List (ℕ × Option P)) → m.0.role ≡ Mailbox st.word (Some x) c → m.1 ≡ (st.word, Some p) ∷ cs
+  abbrev pub gave : (P → Q) → Step (Option P) → Me (Option P) (View W Q) → ℕ → Me (Option P) (View W Q) → Type 0
+  gave plain st m found n = (x : Sender Q) (c : Option (Taker Q)) (p : P) (cs : List (ℕ × Option P)) → m.0.role ≡ Mailbox st.word (Some x) c → m.1 ≡ (st.word, Some p) ∷ cs
       → (n.0 ≡ posed m.0 (Mailbox st.word (Some (sender_sent (plain p) x)) c)) × (n.1 ≡ cs)
 
   abbrev pub took : (P → Q) → (W → ℕ → List Q → Type 0) → Step (Option P) → Me (Option P) (View W Q) → ℕ → Me (Option P) (View W Q) → Type 0
@@ -263,8 +263,8 @@ module _ {W P Q : Type 0} where
       × (found ≡ 0 → (n.0 ≡ posed m.0 (Mailbox st.word b (Some (taker_looked y)))) × (n.1 ≡ m.1))
       × ((x : Sender Q) → b ≡ Some x → found ≡ turn_between x y)
 
-  abbrev pub answered : (P → Q) → Step (Option P) → Me (Option P) (View W Q) → ℕ → Me (Option P) (View W Q) → Type 0
-  answered plain st m found n = (b : Option (Sender Q)) (y : Taker Q) (p : P) (cs : List (ℕ × Option P)) → m.0.role ≡ Mailbox st.word b (Some y) → m.1 ≡ (st.word, Some p) ∷ cs
+  abbrev pub gave_back : (P → Q) → Step (Option P) → Me (Option P) (View W Q) → ℕ → Me (Option P) (View W Q) → Type 0
+  gave_back plain st m found n = (b : Option (Sender Q)) (y : Taker Q) (p : P) (cs : List (ℕ × Option P)) → m.0.role ≡ Mailbox st.word b (Some y) → m.1 ≡ (st.word, Some p) ∷ cs
       → (n.0 ≡ posed m.0 (Mailbox st.word b (Some (taker_answered (plain p) y)))) × (n.1 ≡ cs)
 
   abbrev pub checked : Step (Option P) → Me (Option P) (View W Q) → ℕ → Me (Option P) (View W Q) → Type 0

@@ -50,7 +50,8 @@ pub fn new_table<W: Work>(
     requires { length blanks.items < 2 ^ 16 }
     ensures board { IfOk result (λ t. IsBoard t.0.shared.table_id (length blanks.items)) }
     ensures work { IfOk result (λ t. t.0.shared.key.work.value ≡ work.now) }
-    ensures keeper { IfOk result (λ t. Watches t.0.shared.table_id work.now (plain_list W.plain blanks.items) (Keeper 0 false []) t.1) }
+    ensures keeper { IfOk result (λ t. Watches t.0.shared.table_id work.now (plain_list W.plain blanks.items)
+        (Keeper 0 false []) t.1) }
 {
     let about = Setup {
         work: Snapshot::of(work),
@@ -83,7 +84,8 @@ pub(crate) fn deal_all<W: Work>(
     requires board { (n : ℕ) × IsBoard top.now.table_id n }
     requires keeper { CanDealAll top.now count keeper.old }
     ensures count { IfOk result (λ v. length v.items ≡ count) }
-    ensures fresh { IfOk result (λ v. HandsOutAll top.now count keeper.old keeper.new (λ bs. AllFresh top.now.table_id top.now.key.work.value bs v.items)) }
+    ensures fresh { IfOk result (λ v. HandsOutAll top.now count keeper.old keeper.new
+        (λ bs. AllFresh top.now.table_id top.now.key.work.value bs v.items)) }
 {
     let mut seats = Vec::new(alloc);
     for from in 0..count {

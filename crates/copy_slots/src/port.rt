@@ -35,14 +35,16 @@ pub trait Port<W: Work> {
         requires { ParentIs (state self.old) k Out }
         ensures state { state self.new ≡ after_collect k (in_plain W.plain result) (state self.old) }
         ensures reply { IfSome result (λ r. W.answers (state self.old).work k (sent (state self.old) k) (W.plain r)) }
-        ensures turn { (state self.old).tells ≡ true → MatchOption result (turn (state self.old) k ≢ 0) (λ _. turn (state self.old) k ≡ 0) };
+        ensures turn { (state self.old).tells ≡ true → MatchOption result (turn (state self.old) k ≢ 0)
+            (λ _. turn (state self.old) k ≡ 0) };
 
     /// Looks for a job. None where it is still the parent's turn.
     fn take(&mut self, k: u32) -> Option<W::Packet>
         requires { ChildIs (state self.old) k false }
         ensures state { state self.new ≡ after_take k (in_plain W.plain result) (state self.old) }
         ensures job { IfSome result (λ r. W.asks (state self.old).work k (taken (state self.new) k)) }
-        ensures turn { (state self.old).tells ≡ true → MatchOption result (turn (state self.old) k ≡ 0) (λ _. TookLast (state self.old) (state self.new) k) };
+        ensures turn { (state self.old).tells ≡ true → MatchOption result (turn (state self.old) k ≡ 0)
+            (λ _. TookLast (state self.old) (state self.new) k) };
 
     /// Sends a reply: the packet leaves the child's hand, and it is the parent's turn.
     fn answer(&mut self, k: u32, packet: W::Packet)

@@ -12,6 +12,7 @@ pub struct Setup<W: Work> {
     pub blanks: Snapshot<Vec<W::Packet>>,
 }
 
+/// What holds of a mailbox as long as it stands: the rule of the table in which its two words are kept.
 pub struct MailRule<W> {
     work: PhantomData<W>,
 }
@@ -52,9 +53,9 @@ pub struct Offers<W> {
 }
 
 impl<W: Work> Play<Option<W::Packet>, View<W, W::Plain>> for Offers<W> {
-    ghost use Rattle.copy_slots.specs.Mail.{offered};
+    ghost use Rattle.copy_slots.specs.Mail.{gave};
 
-    ghost then = { offered W.plain };
+    ghost then = { gave W.plain };
 }
 
 /// The child looks for a job.
@@ -74,9 +75,9 @@ pub struct Answers<W> {
 }
 
 impl<W: Work> Play<Option<W::Packet>, View<W, W::Plain>> for Answers<W> {
-    ghost use Rattle.copy_slots.specs.Mail.{answered};
+    ghost use Rattle.copy_slots.specs.Mail.{gave_back};
 
-    ghost then = { answered W.plain };
+    ghost then = { gave_back W.plain };
 }
 
 /// A look at the stop word.

@@ -38,8 +38,10 @@ pub fn collect<W: Work>(top: &MailTable<W>, seat: &mut MailSeat<W>, k: u32) -> O
     requires board { (n : ℕ) × IsBoard top.now.table_id n × (k < n) }
     requires seat { HasParentAt top.now k Out seat.old }
     ensures seat { ChangesParent top.now k (sender_seen (in_plain W.plain result)) seat.old seat.new }
-    ensures reply { IfSome result (λ r. OfParent top.now k seat.old (λ bs x. W.answers top.now.key.work.value k x.sent (W.plain r))) }
-    ensures turn { OfBoth top.now k seat.old (λ x y. MatchOption result (turn_between x y ≢ 0) (λ _. turn_between x y ≡ 0)) }
+    ensures reply { IfSome result (λ r. OfParent top.now k seat.old
+        (λ bs x. W.answers top.now.key.work.value k x.sent (W.plain r))) }
+    ensures turn { OfBoth top.now k seat.old (λ x y. MatchOption result (turn_between x y ≢ 0)
+        (λ _. turn_between x y ≡ 0)) }
 {
     if top.load::<Collects<W>>(seat, k as usize) != 0 {
         return None;
@@ -63,8 +65,10 @@ pub fn take<W: Work>(top: &MailTable<W>, seat: &mut MailSeat<W>, k: u32) -> Opti
     requires board { (n : ℕ) × IsBoard top.now.table_id n × (k < n) }
     requires seat { HasChildWith top.now k false seat.old }
     ensures seat { ChangesChild top.now k (taker_seen (in_plain W.plain result)) seat.old seat.new }
-    ensures job { IfSome result (λ r. OfChild top.now k seat.old (λ y. W.asks top.now.key.work.value k (y.taken ++ W.plain r ∷ []))) }
-    ensures turn { OfBoth top.now k seat.old (λ x y. MatchOption result (turn_between x y ≡ 0) (λ r. IsNewJob x y (W.plain r))) }
+    ensures job { IfSome result (λ r. OfChild top.now k seat.old
+        (λ y. W.asks top.now.key.work.value k (y.taken ++ W.plain r ∷ []))) }
+    ensures turn { OfBoth top.now k seat.old (λ x y. MatchOption result (turn_between x y ≡ 0)
+        (λ r. IsNewJob x y (W.plain r))) }
 {
     if top.load::<Takes<W>>(seat, k as usize) == 0 {
         return None;

@@ -60,16 +60,23 @@ wakes_waits : (c : PlainCode) (t : ℕ) (bs : List ℕ) (to : ℕ) (p : Point) (
 wakes_waits c t [] to p o u some = absurd (some refl)
 wakes_waits c t (b ∷ bs) to p o u some = refl
 
+-- frames of which only the stack differs, and how much is used
+pub record HasRest (f S : Frames) : Type 0 where
+  pub words : S.words ≡ f.words
+  pub counters : S.counters ≡ f.counters
+  pub below : S.below ≡ f.below
+  pub room : S.room ≡ f.room
+  pub most : S.most ≡ f.most
+
+rest_is : (n : ℕ) (stack : List ℤ) (f : Frames) → HasRest f (record { words = f.words; counters = f.counters; stack = stack; below = f.below; used = n; room = f.room; most = f.most })
+rest_is n stack f = record { words = refl; counters = refl; below = refl; room = refl; most = refl }
+
 -- the thread goes on with these frames, at one of two places
 pub record Goes_on (c : PlainCode) (h : Thread) (to : ℕ) (S : Frames) : Type 0 where
   pub here : (q : ℕ) → (q ≡ h.at + 1) ⊎ (q ≡ to) → Comes c (block_of c h.number) q (length S.stack)
   pub base : S.used + length h.stack.stack ≡ h.stack.used + length S.stack
   pub less : length S.stack ≤ length h.stack.stack
-  pub words : S.words ≡ h.stack.words
-  pub counters : S.counters ≡ h.stack.counters
-  pub below : S.below ≡ h.stack.below
-  pub room : S.room ≡ h.stack.room
-  pub most : S.most ≡ h.stack.most
+  pub rest : HasRest h.stack S
   pub for : Awaited
   pub waits : machine_of c h ≡ Waits for (own_of h.own) h.units
   pub branches : for.branches ≡ h.branches.numbers
@@ -104,11 +111,7 @@ module _ (c : PlainCode) (h : Thread) (l : Loaded c h) {n : ℕ} (at : HasSettle
         here = λ q k. let d : length h.stack.stack - m ≡ length S.stack = omega (arith, long, count) in subst (Comes c (block_of c h.number) q) d (next h.at (length h.stack.stack) (instruction.Fork par to) q v0.works.at.here is k);
         base = omega (arith, long, count, room, v0.works.at.counted);
         less = omega (arith, long);
-        words = refl;
-        counters = refl;
-        below = refl;
-        room = refl;
-        most = refl;
+        rest = rest_is _ _ h.stack;
         for = W;
         waits = same_units W (at.before + 1) e;
         branches = sym same;
@@ -128,11 +131,7 @@ module _ (c : PlainCode) (h : Thread) (l : Loaded c h) {n : ℕ} (at : HasSettle
         here = λ q k. next h.at (length h.stack.stack) (instruction.Again par to) q v0.works.at.here is k;
         base = refl;
         less = omega arith;
-        words = refl;
-        counters = refl;
-        below = refl;
-        room = refl;
-        most = refl;
+        rest = rest_is _ _ h.stack;
         for = W;
         waits = same_units W at.before e;
         branches = sym same;
@@ -146,15 +145,15 @@ module _ (c : PlainCode) (h : Thread) (l : Loaded c h) {n : ℕ} (at : HasSettle
     pub works_there : Works false c h.number l.needs None (work q S own u)
     works_there =
         let w = v0.works in
-        let nw = ap length g.words in
-        let nc = ap length g.counters in
+        let nw = ap length g.rest.words in
+        let nc = ap length g.rest.counters in
         record {
           at = record {
             sound = w.at.sound;
             here = g.here q at_q;
             deep = w.at.deep;
             bound = w.at.bound;
-            room = omega (arith, w.at.room, g.base, g.less, g.room);
+            room = omega (arith, w.at.room, g.base, g.less, g.rest.room);
             counted = omega (arith, w.at.counted, g.base);
             words = omega (arith, nw, w.at.words);
             counters = omega (arith, nc, w.at.counters);
@@ -164,10 +163,10 @@ module _ (c : PlainCode) (h : Thread) (l : Loaded c h) {n : ℕ} (at : HasSettle
           ends = omega (arith, w.ends, g.base, nw, nc);
           need = w.need;
           enough = w.enough;
-          fits = omega (arith, w.fits, g.room);
-          chained = let k = ap length g.below in omega (arith, k, w.chained);
+          fits = omega (arith, w.fits, g.rest.room);
+          chained = let k = ap length g.rest.below in omega (arith, k, w.chained);
           inside = λ e. cc;
-          below = subst (λ r. Below false c h.number l.needs r S.below w.base) (sym g.room) (subst (λ ws. Below false c h.number l.needs h.stack.room ws w.base) (sym g.below) w.below);
+          below = subst (λ r. Below false c h.number l.needs r S.below w.base) (sym g.rest.room) (subst (λ ws. Below false c h.number l.needs h.stack.room ws w.base) (sym g.rest.below) w.below);
         }
 
 -- ---- the branches that live

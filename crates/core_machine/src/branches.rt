@@ -184,12 +184,14 @@ impl Branches {
         self.units
     }
 
+    /// How the branches joined so far have ended together.
     pub fn verdict(&self) -> Verdict
         ensures { result ≡ self.now.verdict }
     {
         self.verdict
     }
 
+    /// Sets how the branches joined so far have ended together.
     pub fn judge(&mut self, verdict: Verdict)
         ensures { self.new ≡ with_verdict verdict self.old }
     {
@@ -209,7 +211,8 @@ impl Branches {
         requires room { length (plain_shape shape.now).threads ≤ self.old.room }
         requires live { length own.now.live ≡ length (plain_shape shape.now).threads }
         requires pars { HavePars (plain_shape shape.now) own.now.pars }
-        ensures { self.new ≡ with_branches fork (chosen fork.again own.now.live (branches_in (plain_shape shape.now) fork.par)) self.old }
+        ensures { self.new ≡ with_branches fork (chosen fork.again own.now.live
+            (branches_in (plain_shape shape.now) fork.par)) self.old }
     {
         self.fork = fork;
         self.count = fill(shape, fork.par, own, fork.again, &mut self.numbers);

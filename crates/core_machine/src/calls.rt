@@ -61,12 +61,15 @@ impl Thread {
         requires branch { Loaded (plain_code code.now) branch.old }
         requires number { branch.old.number ≡ branch_at self.now k }
         requires resting { IsResting branch.old }
-        requires job { (w : Written) → slice_get (jobs_at (plain_code code.now) self.now) k ≡ Some w → CanTake branch.old w.job }
+        requires job { (w : Written) → slice_get (jobs_at (plain_code code.now) self.now) k ≡ Some w
+            → CanTake branch.old w.job }
         ensures loaded { Loaded (plain_code code.now) branch.new }
         ensures running { CanRun branch.new }
         ensures number { branch.new.number ≡ branch.old.number }
-        ensures stands { (w : Written) (xs : List Exchange) → slice_get (jobs_at (plain_code code.now) self.now) k ≡ Some w
-            → StandsFor (plain_code code.now) branch.old xs → StandsFor (plain_code code.now) branch.new (xs ++ record { job = w.job; replies = [] } ∷ []) }
+        ensures stands { (w : Written) (xs : List Exchange) → slice_get (jobs_at (plain_code code.now) self.now) k
+            ≡ Some w
+            → StandsFor (plain_code code.now) branch.old xs → StandsFor (plain_code code.now) branch.new (xs
+            ++ record { job = w.job; replies = [] } ∷ []) }
     {
         let parts = code.parts();
         if self.fork_here(parts).again {
@@ -134,7 +137,8 @@ impl Thread {
         ensures order { HasSettled self.new (_k + 1) }
         ensures jobs { jobs_at (plain_code _code.now) self.new ≡ jobs_at (plain_code _code.now) self.old }
         ensures stands { (xs : List Exchange) (rs : List Reply) (r : Reply) → length rs ≡ _k → RepliesBy branch.now r
-            → StandsFor (plain_code _code.now) self.old (with_replies xs rs) → StandsFor (plain_code _code.now) self.new (with_replies xs (rs ++ r ∷ [])) }
+            → StandsFor (plain_code _code.now) self.old (with_replies xs rs)
+            → StandsFor (plain_code _code.now) self.new (with_replies xs (rs ++ r ∷ [])) }
     {
         self.branches.settle_with(branch);
     }
@@ -153,7 +157,8 @@ impl Thread {
         ensures branches { self.new.branches.numbers ≡ self.old.branches.numbers }
         ensures order { k + 1 < length self.old.branches.numbers → HasJoined self.new (k + 1) }
         ensures running { k + 1 ≡ length self.old.branches.numbers → CanRun self.new }
-        ensures stands { (xs : List Exchange) (rs : List Reply) (r : Reply) → length rs ≡ length self.old.branches.numbers → slice_get rs k ≡ Some r
+        ensures stands { (xs : List Exchange) (rs : List Reply) (r : Reply) → length rs
+            ≡ length self.old.branches.numbers → slice_get rs k ≡ Some r
             → RepliesBy branch.now r → StandsFor (plain_code code.now) self.old (with_replies xs rs)
             → StandsFor (plain_code code.now) self.new (with_replies xs rs) }
     {

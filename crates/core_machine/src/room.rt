@@ -77,7 +77,8 @@ fn need_at(needs: &[u64], function: u32) -> u64
 
 /// The most that a function needs that the block calls.
 fn most_called(block: &Block, needs: &[u64]) -> u64
-    ensures { (p f : ℕ) → slice_get block.now.steps.items p ≡ Some (instruction.Call f) → get_or needs.now f 0 ≤ result }
+    ensures { (p f : ℕ) → slice_get block.now.steps.items p ≡ Some (instruction.Call f) → get_or needs.now f 0
+        ≤ result }
 {
     let mut most = 0;
     for step in &block.steps {
@@ -90,7 +91,8 @@ fn most_called(block: &Block, needs: &[u64]) -> u64
 
 /// The most that a combine function needs, of those of these variables.
 fn most_combined(shape: &Shape, uses: &[u32], needs: &[u64]) -> u64
-    ensures { (v f : ℕ) → IsTrue (contains v uses.now) → (variable_of (of_shape (plain_shape shape.now)) v).combine ≡ Some f → get_or needs.now f 0 ≤ result }
+    ensures { (v f : ℕ) → IsTrue (contains v uses.now) → (variable_of (of_shape (plain_shape shape.now)) v).combine
+        ≡ Some f → get_or needs.now f 0 ≤ result }
 {
     let mut most = 0;
     for i in 0..uses.len() {
@@ -166,7 +168,8 @@ fn fill(code: &CodeParts, own: &[u64], needs: &mut Vec<u64>, function: u32, fuel
 fn is_enough(code: &CodeParts, own: u64, needs: &[u64], function: u32) -> bool
     requires function { function < length (plain_code code.now).functions }
     requires own { IsFrame (plain_code code.now) (block_of_function (plain_code code.now) function) own }
-    ensures { result ≡ true → Enough (plain_code code.now) (block_of_function (plain_code code.now) function) needs.now (get_or needs.now function 0) }
+    ensures { result ≡ true → Enough (plain_code code.now) (block_of_function (plain_code code.now) function) needs.now
+        (get_or needs.now function 0) }
 {
     match whole_need(code, &code.functions[function as usize], own, needs) {
         Some(need) => need <= need_at(needs, function),
@@ -232,7 +235,8 @@ pub fn thread_need(
 ) -> Result<u64, OutOfMemory>
     requires sound { IsSoundIn (plain_code code.now) (plain_block block.now) }
     requires pars { HavePars (plain_code code.now).shape needs.now.pars }
-    ensures { IfOk result (λ n. EnoughFor (plain_code code.now) (plain_block block.now) uses.now needs.now.each.items n) }
+    ensures { IfOk result (λ n. EnoughFor (plain_code code.now) (plain_block block.now) uses.now needs.now.each.items
+        n) }
 {
     let own = frame_need(alloc, code, &needs.pars, block)?;
     match runs_need(code, block, own, uses, &needs.each) {

@@ -39,7 +39,7 @@ not_it a b n = pick (a == b) refl
     pick true e = absurd (n (is_it a b e))
     pick false e = refl
 
-same_it : (a : ℕ) → (a == a) ≡ true
+pub same_it : (a : ℕ) → (a == a) ≡ true
 same_it a = grind (arith, nat_tests)
 
 pub contains_not : (v : ℕ) (l : List ℕ) (x : ℕ) → contains v l ≡ false → x ≢ v → contains v (l ++ x ∷ []) ≡ false
@@ -60,7 +60,7 @@ contains_at v (y ∷ l) (suc i) e = ap (λ b. cond (y == v) true b) (contains_at
     either true = refl
     either false = refl
 
-contains_front : (v : ℕ) (l : List ℕ) (x : ℕ) → contains v l ≡ true → contains v (l ++ x ∷ []) ≡ true
+pub contains_front : (v : ℕ) (l : List ℕ) (x : ℕ) → contains v l ≡ true → contains v (l ++ x ∷ []) ≡ true
 contains_front v [] x h = cc
 contains_front v (y ∷ l) x h = pick (y == v) h (contains_front v l x)
   where
@@ -68,7 +68,7 @@ contains_front v (y ∷ l) x h = pick (y == v) h (contains_front v l x)
     pick true h ih = refl
     pick false h ih = ih h
 
-contains_last : (v : ℕ) (l : List ℕ) → contains v (l ++ v ∷ []) ≡ true
+pub contains_last : (v : ℕ) (l : List ℕ) → contains v (l ++ v ∷ []) ≡ true
 contains_last v [] = ap (λ b. cond b true false) (same_it v)
 contains_last v (y ∷ l) = ap (λ b. cond (y == v) true b) (contains_last v l) ∙ either (y == v)
   where

@@ -5,12 +5,12 @@ use Rattle.forec_kernel.specs.Engine.{Job, Reply, Engine, Rest, Nothing, Exchang
 use Rattle.forec_kernel.specs.Shapes.{PlainShape}
 use Rattle.forec_kernel.proofs.Same.{IsSteady}
 use Rattle.forec_kernel.proofs.Serving.{allowed_first}
-use Rattle.forec_kernel.proofs.TogetherLemmas.{alone_take}
+use Rattle.forec_kernel.proofs.TogetherLemmas.{alone_take, reply_take, pairs_take}
 use Rattle.forec_kernel.proofs.Agree.{answers_more}
 use Rattle.exchange_meaning.specs.Logged.{Logged, ExchangeLog, jobs_in, RepliesAre, told_to, HasBranch}
 use Rattle.exchange_meaning.specs.LogOf.{IsLogged, LogOf}
 use Rattle.exchange_meaning.specs.Replays.{AllAgree}
-use Rattle.exchange_meaning.proofs.TellingLemmas.{none_there, allowed_told, reply_take, pairs_take, jobs_take, take_jobs}
+use Rattle.exchange_meaning.proofs.TellingLemmas.{none_there, allowed_told, jobs_take, take_jobs}
 use Rattle.exchange_meaning.proofs.Once.{answers_one, alone_same}
 
 -- ---- lengths

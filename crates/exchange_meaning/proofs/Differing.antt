@@ -1,5 +1,5 @@
 -- That a thread differs from a log is certain: whatever run there is with the logged replies, it comes to the same fork, or to the same reply.
-use Rattle.std.proofs.Common.{ℕ, suc, ◌-◌, ◌<◌, ◌≡◌, ◌==◌, Bool, true, false, Some, List, [], ◌∷◌, ◌++◌, map, length, refl, sym, ap, subst, ◌∙◌, arith, append_assoc}
+use Rattle.std.proofs.Common.{ℕ, suc, ◌-◌, ◌<◌, ◌≡◌, ◌==◌, Bool, true, false, Some, List, [], ◌∷◌, ◌++◌, map, length, refl, sym, ap, subst, ◌∙◌, arith, append_assoc, append-nil}
 use Rattle.forec_kernel.specs.Engine.{Job, Reply, WasPaused, WasEnded, WasTrapped, WasOver, Seed, Written, written, View, Going, AtFork, Pausing, Ending, Trapping, Exceeding, Engine, Rest, Nothing, Exchange, Output, Alone, allowance_of, Answered, pair_up, pair_forks, pair_all, Allowed, AllReply, AtEvent, RunsOn, over, event, first_jobs, ends_at, answers_with, IfElse, Serves, Begins}
 use Rattle.forec_kernel.specs.Shapes.{PlainShape}
 use Rattle.forec_kernel.proofs.Same.{IsSteady, one_stop, not_both}
@@ -64,6 +64,19 @@ module _ (Sub Sub' : ℕ → List Job → Reply → Type 0) (one : (b : ℕ) (js
     pub count : length rs ≡ length ws
     pub more : List Answered
     pub whole_is : whole ≡ pairs ++ (pair_up ws rs ++ more)
+
+  -- the same of other pairs
+  meets_too : {forks : List (List Written)} {pairs whole pairs' whole' : List Answered} (m : Meets forks pairs whole) (more : List Answered) →
+      whole' ≡ pairs' ++ (pair_up m.ws m.rs ++ more) → Meets forks pairs' whole'
+  meets_too m more is = record {
+    before = m.before;
+    ws = m.ws;
+    forks_are = m.forks_are;
+    rs = m.rs;
+    count = m.count;
+    more = more;
+    whole_is = is;
+  }
 
   abbrev Met : Output → List (List Reply) → Output → List (List Reply) → Type 0
   Met o rss o' rss' = Meets o.jobs (pair_forks o.jobs rss) (pair_forks o'.jobs rss')
@@ -179,23 +192,11 @@ module _ (Sub Sub' : ℕ → List Job → Reply → Type 0) (one : (b : ℕ) (js
       let g' = subst (λ i. Serves e (allowance_of i) x'.replies h.0 o' h'.1) (sym job) (subst (λ z. Serves e (allowance_of x'.job) x'.replies z o' h'.1) (sym s) h'.3) in
       let k = allowed_first Sub past (pair_forks o.jobs x.replies) [] l in
       let m = serves_met (allowance_of x.job) x.replies h.0 past x'.replies o o' h.1 h'.1 c'.0.0 short c'.0.1 h.3 g' k (allowed_first Sub' past (pair_forks o'.jobs x'.replies) (pair_all xs' os') l') in
-      record {
-        before = m.before;
-        ws = m.ws;
-        forks_are = m.forks_are;
-        rs = m.rs;
-        count = m.count;
-        more = m.more ++ pair_all xs' os';
-        whole_is =
-            ap (λ ps. ps ++ pair_all xs' os') m.whole_is
-            ∙ append_assoc (pair_forks o.jobs x.replies) (pair_up m.ws m.rs ++ m.more) (pair_all xs' os')
-            ∙ ap (λ ps. pair_forks o.jobs x.replies ++ ps) (append_assoc (pair_up m.ws m.rs) m.more (pair_all xs' os'))
-            ∙ ap (λ ps. ps ++ (pair_up m.ws m.rs ++ (m.more ++ pair_all xs' os'))) (no_more (pair_forks o.jobs x.replies));
-      }
-    where
-      no_more : (ps : List Answered) → ps ≡ ps ++ []
-      no_more [] = refl
-      no_more (p ∷ ps) = ap (λ l. p ∷ l) (no_more ps)
+      meets_too m (m.more ++ pair_all xs' os')
+      (ap (λ ps. ps ++ pair_all xs' os') m.whole_is
+      ∙ append_assoc (pair_forks o.jobs x.replies) (pair_up m.ws m.rs ++ m.more) (pair_all xs' os')
+      ∙ ap (λ ps. pair_forks o.jobs x.replies ++ ps) (append_assoc (pair_up m.ws m.rs) m.more (pair_all xs' os'))
+      ∙ ap (λ ps. ps ++ (pair_up m.ws m.rs ++ (m.more ++ pair_all xs' os'))) (sym (append-nil (pair_forks o.jobs x.replies))))
   alone_met past (y ∷ xs) [] x os os' o R h h' jobs n c c' short l l' = cc
   alone_met past (y ∷ xs) (x' ∷ xs') x [] os' o R h h' jobs n c c' short l l' = cc
   alone_met past (y ∷ xs) (x' ∷ xs') x (p ∷ os) [] o R h h' jobs n c c' short l l' = absurd h'
@@ -211,12 +212,4 @@ module _ (Sub Sub' : ℕ → List Job → Reply → Type 0) (one : (b : ℕ) (js
       let k' = subst (λ ps. Allowed Sub' (past ++ ps) (pair_all xs' os')) (sym same.pairs) (allowed_then Sub' past P' (pair_all xs' os') l') in
       let n' : length os ≡ length xs = cc in
       let m = alone_met (past ++ P) xs xs' x os os' o h.1 h.4 (subst (λ z. Alone e xs' z os') (sym same.rests) h'.4) rest_jobs n' c.1 c'.1 short (allowed_then Sub past P Q l) k' in
-      record {
-        before = m.before;
-        ws = m.ws;
-        forks_are = m.forks_are;
-        rs = m.rs;
-        count = m.count;
-        more = m.more;
-        whole_is = ap (λ ps. ps ++ pair_all xs' os') (sym same.pairs) ∙ ap (λ ps. P ++ ps) m.whole_is ∙ sym (append_assoc P Q (pair_up m.ws m.rs ++ m.more));
-      }
+      meets_too m m.more (ap (λ ps. ps ++ pair_all xs' os') (sym same.pairs) ∙ ap (λ ps. P ++ ps) m.whole_is ∙ sym (append_assoc P Q (pair_up m.ws m.rs ++ m.more)))

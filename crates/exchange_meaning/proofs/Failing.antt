@@ -5,11 +5,11 @@ use Rattle.std.specs.Prelude.{Option, None}
 use Rattle.forec_kernel.specs.Composed.{TickInput}
 use Rattle.forec_kernel.specs.Engine.{Reply, Engine, Nothing, Exchange, Output, Alone, Answered, pair_all}
 use Rattle.forec_kernel.specs.Shapes.{PlainShape}
-use Rattle.forec_kernel.proofs.TogetherLemmas.{alone_take}
+use Rattle.forec_kernel.proofs.TogetherLemmas.{alone_take, reply_take, pairs_take}
 use Rattle.exchange_meaning.specs.Logged.{Logged, ExchangeLog, jobs_in, RepliesAre, told_to, AreTold}
 use Rattle.exchange_meaning.specs.Telling.{TellsBranches}
 use Rattle.exchange_meaning.specs.Replays.{AgreesUpTo, AgreesWholly, FailsAt, AreTicks, RunsTicks}
-use Rattle.exchange_meaning.proofs.TellingLemmas.{told_then, reply_take, pairs_take, jobs_take}
+use Rattle.exchange_meaning.proofs.TellingLemmas.{told_then, jobs_take}
 
 take_twice : {A : Type 0} → (m : ℕ) (ls : List A) → take m (take (suc m) ls) ≡ take m ls
 take_twice zero ls = refl

@@ -5,6 +5,7 @@ pub mod Complete
 pub mod Shaped
 pub mod TickLemmas
 pub mod Replayed
+pub mod InJob
 pub mod OwnBranches
 pub mod Differing
 pub mod Failing

@@ -1,17 +1,17 @@
 -- A thread of a valid code tells its own branches alone.
 use Rattle.std.proofs.Common.{◌≡◌, ℕ, zero, suc, ◌+◌, ◌-◌, ◌<◌, ◌≤◌, ◌==◌, ℤ, Bool, true, false, cond, Option, Some, None, List, [], ◌∷◌, ◌++◌, map, length, get_or, refl, sym, ◌∙◌, subst, arith}
-use Rattle.std.proofs.lemmas.Bool.Decides.{nat_tests}
-use Rattle.std.specs.Prelude.{slice_get, slice_set, IsTrue}
+use Rattle.std.specs.Prelude.{slice_get, slice_set}
 use Rattle.forec_base.specs.Numbers.{binary_of}
 use Rattle.forec_base.specs.declared.Place.{Place}
 use Rattle.forec_base.specs.declared.Trap.{Trap}
 use Rattle.forec_base.specs.declared.Trap.TheVariants.{Divide, Index}
 use Rattle.forec_kernel.specs.declared.shape.VarCopy.{VarCopy}
 use Rattle.forec_kernel.specs.Values.{copy_of, word, index_in, place_or}
-use Rattle.forec_kernel.specs.Combining.{contains, takes_part, variable_of}
+use Rattle.forec_kernel.specs.Combining.{takes_part, variable_of}
 use Rattle.forec_kernel.specs.Solo.{some_reply_over, all_units}
 use Rattle.forec_kernel.specs.Engine.{Job, Start, Wake, Reply, WasPaused, WasEnded, WasTrapped, WasOver, Seed, Starts, Wakes, Written, written, AtFork, Engine, run_for, Rest, Asleep, Nothing, Exchange, Output, AtEvent, RunsOn, over, event, IfElse, Serves, Begins, Alone, Answered, pair_up, pair_forks, pair_all, allowance_of, first_jobs, ends_at}
-use Rattle.forec_kernel.specs.Reached.{AtRest, Inside, Reached, none, begun, stepped, joined, answered}
+use Rattle.forec_kernel.specs.Reached.{Inside}
+use Rattle.forec_kernel.proofs.Each.{Each, each_in}
 use Rattle.thread_code.specs.declared.instruction.Instruction.{Instruction}
 use Rattle.thread_code.specs.declared.instruction.Instruction.TheVariants as instruction
 use Rattle.thread_code.specs.Plain.{PlainBlock, PlainCode}
@@ -21,31 +21,13 @@ use Rattle.thread_code.specs.Alone.{woken_machine, code_engine, CodeAlone}
 use Rattle.thread_code.proofs.Unstuck.{IsHere, Good, owner, fetched, fine_at, reached_good}
 use Rattle.exchange_meaning.specs.Logged.{HasBranch, AreTold}
 use Rattle.exchange_meaning.proofs.TellingLemmas.{equal_number}
+use Rattle.exchange_meaning.proofs.InJob.{InJob, AfterJobs, no_jobs, job_begun, job_stepped, job_joined, job_answered}
 
-is_same : (a : ℕ) → (a == a) ≡ true
-is_same a = grind (arith, nat_tests)
-
-abbrev AllAre : (ℕ → Type 0) → List ℕ → Type 0
-AllAre Q [] = Unit {0}
-AllAre Q (b ∷ bs) = Q b × AllAre Q bs
-
-all_are : (Q : ℕ → Type 0) (bs : List ℕ) → ((b : ℕ) → IsTrue (contains b bs) → Q b) → AllAre Q bs
-all_are Q [] h = tt
-all_are Q (a ∷ rest) h = (h a (held (a == a) a (is_same a)), all_are Q rest (λ b g. h b (later (a == b) b g)))
-  where
-    held : (t : Bool) (b : ℕ) → t ≡ true → IsTrue (cond t true (contains b rest))
-    held true b e = refl
-    held false b e = cc
-
-    later : (t : Bool) (b : ℕ) → IsTrue (contains b rest) → IsTrue (cond t true (contains b rest))
-    later true b g = refl
-    later false b g = g
-
-living_are : (Q : ℕ → Type 0) (live : List Bool) (bs : List ℕ) → AllAre Q bs → AllAre Q (living live bs)
+living_are : (Q : ℕ → Type 0) (live : List Bool) (bs : List ℕ) → Each Q bs → Each Q (living live bs)
 living_are Q live [] h = tt
 living_are Q live (b ∷ bs) h = by_test (get_or live b false) (living_are Q live bs h.1)
   where
-    by_test : (test : Bool) → AllAre Q (living live bs) → AllAre Q (cond test (b ∷ living live bs) (living live bs))
+    by_test : (test : Bool) → Each Q (living live bs) → Each Q (cond test (b ∷ living live bs) (living live bs))
     by_test true rest = (h.0, rest)
     by_test false rest = rest
 
@@ -70,11 +52,11 @@ module _ (c : PlainCode) (t : ℕ) where
   WaitsForOwn (Exceeded u) = Unit {0}
   WaitsForOwn (Stuck u) = Unit {0}
 
-  starts_mine : (copies : List VarCopy) (bs : List ℕ) (args : List ℤ) → AllAre Mine bs → SeedsMine (starts c t copies bs args)
+  starts_mine : (copies : List VarCopy) (bs : List ℕ) (args : List ℤ) → Each Mine bs → SeedsMine (starts c t copies bs args)
   starts_mine copies [] args h = tt
   starts_mine copies (b ∷ bs) args h = (h.0, starts_mine copies bs _ h.1)
 
-  wakes_mine : (copies : List VarCopy) (bs : List ℕ) → AllAre Mine bs → SeedsMine (wakes c t copies bs)
+  wakes_mine : (copies : List VarCopy) (bs : List ℕ) → Each Mine bs → SeedsMine (wakes c t copies bs)
   wakes_mine copies [] h = tt
   wakes_mine copies (b ∷ bs) h = (h.0, wakes_mine copies bs h.1)
 
@@ -122,7 +104,7 @@ module _ (c : PlainCode) (t : ℕ) where
   return_mine n (Caller p ∷ fs) o u = tt
   return_mine n (Folding v m ∷ fs) o u = tt
 
-  wake_mine : (bs : List ℕ) (to : ℕ) (p : Point) (fs : List Frame) (o : Own) (u : ℕ) → AllAre Mine bs → WaitsForOwn (waking c t bs to p fs o u)
+  wake_mine : (bs : List ℕ) (to : ℕ) (p : Point) (fs : List Frame) (o : Own) (u : ℕ) → Each Mine bs → WaitsForOwn (waking c t bs to p fs o u)
   wake_mine [] to p fs o u h = tt
   wake_mine (b ∷ bs) to p fs o u h = wakes_mine o.copies (b ∷ bs) h
 
@@ -130,8 +112,8 @@ module _ (c : PlainCode) (t : ℕ) where
   none_owns a e = cc
 
   -- a par of the block at work is the thread's own
-  par_mine : (fs : List Frame) (j : ℕ) → IsParOf c.shape (owner t fs) j → AllAre Mine (branches_in c.shape j)
-  par_mine [] j par = all_are Mine (branches_in c.shape j) (λ b m. par.parent b m ∙ sym par.is)
+  par_mine : (fs : List Frame) (j : ℕ) → IsParOf c.shape (owner t fs) j → Each Mine (branches_in c.shape j)
+  par_mine [] j par = each_in Mine (branches_in c.shape j) (λ b m. par.parent b m ∙ sym par.is)
   par_mine (f ∷ fs) j par = absurd (none_owns par.owner par.is)
 
   abbrev FineHere : List Frame → Instruction → Type 0
@@ -302,11 +284,7 @@ module _ (c : PlainCode) (t : ℕ) where
 
     -- a machine that is reached in a job
     record At (a : ℕ) (m : Machine) : Type 0 where
-      pub exchanges : List Exchange
-      pub job : Job
-      pub before : List (List Reply)
-      pub reached : Reached e exchanges (Inside job before m)
-      pub allowance : allowance_of job ≡ a
+      pub here : InJob e a m
       pub mine : WaitsForOwn m
 
     abbrev Mine_rest : Rest Machine → Type 0
@@ -314,12 +292,11 @@ module _ (c : PlainCode) (t : ℕ) where
     Mine_rest Nothing = Unit {0}
 
     record Rests (r : Rest Machine) : Type 0 where
-      pub exchanges : List Exchange
-      pub reached : Reached e exchanges (AtRest r)
+      pub after : AfterJobs e r
       pub mine : Mine_rest r
 
     nothing_rests : Rests Nothing
-    nothing_rests = record { exchanges = []; reached = none; mine = tt }
+    nothing_rests = record { after = no_jobs e; mine = tt }
 
     begun_mine : (job : Job) (r : Rest Machine) (m : Machine) → Mine_rest r → Begins e job r m → WaitsForOwn m
     begun_mine (Start args values a) r m h b = subst WaitsForOwn (sym b) tt
@@ -331,12 +308,8 @@ module _ (c : PlainCode) (t : ℕ) where
     run_at a (suc n) m h =
         run_at a n (step c t m)
         (record {
-          exchanges = h.exchanges;
-          job = h.job;
-          before = h.before;
-          reached = stepped h.exchanges h.job h.before m (step c t m) h.reached refl;
-          allowance = h.allowance;
-          mine = step_mine m (reached_good c valid t lt h.exchanges (Inside h.job h.before m) h.reached) h.mine;
+          here = job_stepped e a m h.here;
+          mine = step_mine m (reached_good c valid t lt h.here.exchanges (Inside h.here.job h.here.before m) h.here.reached) h.mine;
         })
 
     record Served (o : Output) (r : Rest Machine) : Type 0 where
@@ -358,8 +331,7 @@ module _ (c : PlainCode) (t : ℕ) where
         (record {
           forks = tt;
           rests = record {
-            exchanges = h.exchanges ++ record { job = h.job; replies = h.before } ∷ [];
-            reached = answered h.exchanges h.job h.before (Paused wake own u) (WasPaused own.copies u) (Asleep (Paused wake own u)) h.reached (omega (arith, le, h.allowance)) (refl, refl);
+            after = job_answered e a (Paused wake own u) (WasPaused own.copies u) (Asleep (Paused wake own u)) h.here le (refl, refl);
             mine = tt;
           };
         })
@@ -388,14 +360,7 @@ module _ (c : PlainCode) (t : ℕ) where
       where
         joined_at : (m' : Machine) → At a m' → e.units m' ≤ a → (seeds : List Seed) → e.view m' ≡ AtFork seeds → length rs ≡ length seeds → At a (join c t rs m')
         joined_at m' h' le seeds v count =
-            record {
-              exchanges = h'.exchanges;
-              job = h'.job;
-              before = h'.before ++ rs ∷ [];
-              reached = joined h'.exchanges h'.job h'.before rs seeds m' h'.reached v (omega (arith, le, h'.allowance)) count;
-              allowance = h'.allowance;
-              mine = join_mine rs m' h'.mine;
-            }
+            record { here = job_joined e a rs seeds m' h'.here v le count; mine = join_mine rs m' h'.mine }
 
         by_count : (m' : Machine) (seeds : List Seed) → SeedsMine seeds → (test : Bool) → (length rs == length seeds) ≡ test → (o : Output) (r : Rest Machine) →
             (length rs ≡ length seeds → (o' : Output) → Serves e a more (join c t rs m') o' r → Served o' r) →
@@ -411,14 +376,7 @@ module _ (c : PlainCode) (t : ℕ) where
     alone_mine [] (o ∷ os) r h al = absurd al
     alone_mine (x ∷ xs) [] r h al = absurd al
     alone_mine (x ∷ xs) (o ∷ os) r h al =
-        let at : At (allowance_of x.job) al.0 = record {
-          exchanges = h.exchanges;
-          job = x.job;
-          before = [];
-          reached = begun h.exchanges x.job r al.0 h.reached al.2;
-          allowance = refl;
-          mine = begun_mine x.job r al.0 h.mine al.2;
-        } in
+        let at : At (allowance_of x.job) al.0 = record { here = job_begun e x.job r al.0 h.after al.2; mine = begun_mine x.job r al.0 h.mine al.2 } in
         let s = serves_mine (allowance_of x.job) x.replies al.0 at o al.1 al.3 in
         told_both (pair_forks o.jobs x.replies) (pair_all xs os) (told_forks o.jobs x.replies s.forks) (alone_mine xs os al.1 s.rests al.4)
 

@@ -3,12 +3,12 @@ use Rattle.std.proofs.Common.{ℕ, zero, suc, ◌+◌, ◌-◌, ◌<◌, ◌≤�
 use Rattle.forec_kernel.specs.Engine.{Job, Reply, Engine, Nothing, Exchange, Output, Alone, Answered, pair_all, Allowed, AnswersBy, answers_within, Answers}
 use Rattle.forec_kernel.specs.Shapes.{PlainShape}
 use Rattle.forec_kernel.proofs.Serving.{allowed_first}
-use Rattle.forec_kernel.proofs.TogetherLemmas.{alone_take}
+use Rattle.forec_kernel.proofs.TogetherLemmas.{alone_take, reply_take, pairs_take}
 use Rattle.exchange_meaning.specs.Logged.{Logged, ExchangeLog, jobs_in, RepliesAre, logged, told_to, HasBranch, AreTold, StartsWith}
 use Rattle.exchange_meaning.specs.Telling.{TellsBranches, IsAll}
 use Rattle.exchange_meaning.specs.LogOf.{LogOf}
 use Rattle.exchange_meaning.specs.Replays.{AgreesWholly, AllAgree}
-use Rattle.exchange_meaning.proofs.TellingLemmas.{own_told, told_then, jobs_own, reply_take, pairs_take, jobs_take, take_jobs, last_at}
+use Rattle.exchange_meaning.proofs.TellingLemmas.{own_told, told_then, jobs_own, jobs_take, take_jobs, last_at}
 
 module _ (S : Type 0) (e : ℕ → Engine S) (s : PlainShape) (log : ExchangeLog) (below : (t b : ℕ) → HasBranch s t b → (t < b) × (b < length s.threads)) where
   abbrev run : ℕ → List Exchange → List Output → Type 0

@@ -48,7 +48,8 @@ fn climbing(
     depth: usize,
     least: u8,
 ) -> Result<Box<Expr>, Fault>
-    ensures read { Reads term_in (spec.climbing max_level (spec.read_expression max_level depth) least tokens.old) result tokens.new }
+    ensures read { Reads term_in (spec.climbing max_level (spec.read_expression max_level depth) least tokens.old)
+        result tokens.new }
     ensures stands { IfErr result (λ e. RefusesAt e tokens.new) }
 {
     let mut left = prefix(alloc, tokens, depth)?;
@@ -72,7 +73,8 @@ fn operation(
     depth: usize,
     left: Box<Expr>,
 ) -> Result<Box<Expr>, Fault>
-    ensures read { Reads term_in (spec.operation max_level (spec.read_expression max_level depth) (term_in left) tokens.old) result tokens.new }
+    ensures read { Reads term_in (spec.operation max_level (spec.read_expression max_level depth) (term_in left)
+        tokens.old) result tokens.new }
     ensures stands { IfErr result (λ e. RefusesAt e tokens.new) }
 {
     match infix_of(tokens.kind()) {
@@ -189,7 +191,8 @@ pub fn passed(alloc: Global, tokens: &mut Tokens<'_>, depth: usize) -> Result<It
 #[cycle(expr)]
 #[tactic(auto, unfolding(crate::specs::Reading::read_arguments))]
 fn arguments(alloc: Global, tokens: &mut Tokens<'_>, depth: usize) -> Result<Items<Expr>, Fault>
-    ensures read { Reads (map term) (spec.read_arguments max_level (spec.read_expression max_level depth) tokens.old) result tokens.new }
+    ensures read { Reads (map term) (spec.read_arguments max_level (spec.read_expression max_level depth) tokens.old)
+        result tokens.new }
     ensures stands { IfErr result (λ e. RefusesAt e tokens.new) }
 {
     if tokens.next_is(Fixed::RightRound) {
@@ -202,7 +205,8 @@ fn arguments(alloc: Global, tokens: &mut Tokens<'_>, depth: usize) -> Result<Ite
 #[cycle(expr)]
 #[tactic(auto, unfolding(crate::specs::Reading::separated, crate::specs::Reading::separated_from))]
 pub fn values(alloc: Global, tokens: &mut Tokens<'_>, depth: usize) -> Result<Items<Expr>, Fault>
-    ensures read { Reads (map term) (spec.separated (spec.value max_level (spec.read_expression max_level depth)) tokens.old) result tokens.new }
+    ensures read { Reads (map term) (spec.separated (spec.value max_level (spec.read_expression max_level depth))
+        tokens.old) result tokens.new }
     ensures stands { IfErr result (λ e. RefusesAt e tokens.new) }
 {
     let mut found = Items::new(alloc);

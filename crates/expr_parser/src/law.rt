@@ -12,5 +12,6 @@ ghost use Rattle.expr_parser.specs.Spelled.{reads, IsSpelledBetween};
 /// is spelled within the greatest level is read where a mark that ends an expression follows.
 pub fn reads_as_spelled()
     ensures sound { (x : Term) (i j : Input) → i.level ≤ max_level → reads i ≡ Ok (x, j) → IsSpelledBetween x i j }
-    ensures complete { (x : Term) (v : ℕ) (ls : List Spelt) (rest : List Token) → v ≤ max_level → IsWithin max_level ls → Whole x v ls → ends (kind_ahead rest) ≡ true → reads (input (tokens ls ++ rest) v) ≡ Ok (x, input rest v) }
+    ensures complete { (x : Term) (v : ℕ) (ls : List Spelt) (rest : List Token) → v ≤ max_level → IsWithin max_level ls
+        → Whole x v ls → ends (kind_ahead rest) ≡ true → reads (input (tokens ls ++ rest) v) ≡ Ok (x, input rest v) }
 {}

@@ -39,17 +39,14 @@ pub two_loops : (text : Text) (kept one new : Option Fault) (a b : List Statemen
 two_loops text kept one new a b h g =
     g ∙ ap (λ k. least_from k (loops_faults text b)) h ∙ sym (ap (least_from kept) (loops_append text a b) ∙ least-append kept (loops_faults text a) (loops_faults text b))
 
--- a loop that may run for ever
-pub endless_is : (text : Text) (bound : Option Number) (b : Bool) (turns : Option ℕ) (inside : Bool) (s w body : Statement) → b ≡ (is_none bound && (is_none turns && not inside)) → turns ≡ inferred text s →
-    inside ≡ certain text body → s ≡ w → endless text w ≡ (is_none bound && (is_none (inferred text w) && not (certain text body))) → b ≡ endless text w
-endless_is text bound b turns inside s w body h t c e d =
-    h ∙ ap (λ x. is_none bound && (is_none x && not inside)) (t ∙ ap (inferred text) e) ∙ ap (λ x. is_none bound && (is_none (inferred text w) && not x)) c ∙ sym d
-
--- a loop after those in its body
-pub last_loop : (text : Text) (kept new : Option Fault) (w : Statement) (b : Bool) (place : Place) → b ≡ endless text w → place ≡ loop_place w → new ≡ least_from kept (fault_if b place 20) →
-    new ≡ least_from kept (loops_faults text (w ∷ []))
-last_loop text kept new w b place e p h =
-    h ∙ ap (λ c. least_from kept (fault_if c place 20)) e ∙ ap (λ q. least_from kept (fault_if (endless text w) q 20)) p
+-- a loop that may run for ever, after those in its body
+pub last_loop : (text : Text) (kept new : Option Fault) (bound : Option Number) (inside : Bool) (place : Place) (s w body : Statement) →
+    new ≡ least_from kept (fault_if (is_none bound && (is_none (inferred text s) && not inside)) place 20) → inside ≡ certain text body → s ≡ w →
+    endless text w ≡ (is_none bound && (is_none (inferred text w) && not (certain text body))) → place ≡ loop_place w → new ≡ least_from kept (loops_faults text (w ∷ []))
+last_loop text kept new bound inside place s w body h c e d p =
+    h
+    ∙ ap (λ b. least_from kept (fault_if b place 20)) (ap (λ x. is_none bound && (is_none (inferred text x) && not inside)) e ∙ ap (λ x. is_none bound && (is_none (inferred text w) && not x)) c ∙ sym d)
+    ∙ ap (λ q. least_from kept (fault_if (endless text w) q 20)) p
     ∙ ap (least_from kept) (sym (append-nil (fault_if (endless text w) (loop_place w) 20)))
 
 -- one part more of a list

@@ -7,7 +7,7 @@ use Rattle.std.specs.declared.vec.Vec.{Vec}
 use Rattle.std.specs.declared.alloc.Global.{Global}
 use Rattle.forec_base.specs.declared.Place.{Place}
 use Rattle.forec_tree.specs.declared.fault.Fault.{Fault}
-use Rattle.forec_tree.specs.declared.tree.Name.{Name}
+use Rattle.forec_tree.specs.declared.tree.GlobalKind.{GlobalKind}
 use Rattle.forec_tree.specs.declared.uses.How.{How}
 use Rattle.forec_tree.specs.declared.uses.How.TheVariants as how
 use Rattle.forec_tree.specs.declared.uses.Meaning.{Meaning}
@@ -29,7 +29,7 @@ use Rattle.loop_check.proofs.Settled.{front_at, get_take}
 use Rattle.loop_check.proofs.Reading.{next_of, leads_same}
 use Rattle.forec_check.specs.declared.walk.effects.Effect.{Effect}
 use Rattle.forec_check.specs.declared.walk.effects.Effect.TheVariants as effect
-use Rattle.forec_check.specs.Walk.{effects_of, finding_effects}
+use Rattle.forec_check.specs.Walk.{as_list, effect_of, effects_of, finding_effects}
 use Rattle.forec_check.specs.Items.{in_item}
 use Rattle.forec_check.specs.Early.{effect_calls, function_calls, improves, IsLeastOrNone, RecursiveIn, EarlyTo}
 
@@ -44,6 +44,19 @@ effect_calls-append (effect.Accesses id ∷ xs) ys = effect_calls-append xs ys
 effect_calls-append (effect.Opens ∷ xs) ys = effect_calls-append xs ys
 effect_calls-append (effect.Closes ∷ xs) ys = effect_calls-append xs ys
 
+-- a use of what is no function calls none
+abbrev used_calls : How → ℕ → Meaning → List ℕ
+used_calls h id m = effect_calls (as_list (effect_of h id m))
+
+calls_none : (h : How) (id : ℕ) → (used_calls h id means.Unknown ≡ []) × ((a : Bool) → used_calls h id (means.Local a) ≡ []) × ((k : GlobalKind) (a : Bool) → used_calls h id (means.Global k a) ≡ [])
+calls_none how.Reads id = (refl, λ a. refl, λ k a. refl)
+calls_none how.Indexes id = (refl, λ a. refl, λ k a. refl)
+calls_none how.Writes id = (refl, λ a. refl, λ k a. refl)
+calls_none how.WritesAt id = (refl, λ a. refl, λ k a. refl)
+calls_none (how.Computes n) id = (refl, λ a. refl, λ k a. refl)
+calls_none (how.Runs n) id = (refl, λ a. refl, λ k a. refl)
+calls_none (how.Starts n) id = (refl, λ a. refl, λ k a. refl)
+
 one_call : (f : Finding) (rest : List Finding) → effect_calls (finding_effects f) ++ called_in rest ≡ called_in (f ∷ rest)
 one_call (finding.Use (how.Computes n) name (means.Function gives params)) rest = refl
 one_call (finding.Use (how.Runs n) name (means.Function gives params)) rest = refl
@@ -52,36 +65,9 @@ one_call (finding.Use how.Reads name (means.Function gives params)) rest = refl
 one_call (finding.Use how.Indexes name (means.Function gives params)) rest = refl
 one_call (finding.Use how.Writes name (means.Function gives params)) rest = refl
 one_call (finding.Use how.WritesAt name (means.Function gives params)) rest = refl
-one_call (finding.Use h name means.Unknown) rest = other h name
-  where
-    other : (h : How) (name : Name) → effect_calls (finding_effects (finding.Use h name means.Unknown)) ++ called_in rest ≡ called_in rest
-    other how.Reads name = refl
-    other how.Indexes name = refl
-    other how.Writes name = refl
-    other how.WritesAt name = refl
-    other (how.Computes n) name = refl
-    other (how.Runs n) name = refl
-    other (how.Starts n) name = refl
-one_call (finding.Use h name (means.Local a)) rest = other h name
-  where
-    other : (h : How) (name : Name) → effect_calls (finding_effects (finding.Use h name (means.Local a))) ++ called_in rest ≡ called_in rest
-    other how.Reads name = refl
-    other how.Indexes name = refl
-    other how.Writes name = refl
-    other how.WritesAt name = refl
-    other (how.Computes n) name = refl
-    other (how.Runs n) name = refl
-    other (how.Starts n) name = refl
-one_call (finding.Use h name (means.Global k a)) rest = other h name
-  where
-    other : (h : How) (name : Name) → effect_calls (finding_effects (finding.Use h name (means.Global k a))) ++ called_in rest ≡ called_in rest
-    other how.Reads name = refl
-    other how.Indexes name = refl
-    other how.Writes name = refl
-    other how.WritesAt name = refl
-    other (how.Computes n) name = refl
-    other (how.Runs n) name = refl
-    other (how.Starts n) name = refl
+one_call (finding.Use h name means.Unknown) rest = ap (λ l. l ++ called_in rest) (calls_none h name.id).0
+one_call (finding.Use h name (means.Local a)) rest = ap (λ l. l ++ called_in rest) ((calls_none h name.id).1 a)
+one_call (finding.Use h name (means.Global k a)) rest = ap (λ l. l ++ called_in rest) ((calls_none h name.id).2 k a)
 one_call (finding.Declares name again l n) rest = refl
 one_call (finding.Bound n) rest = refl
 one_call (finding.Loop l) rest = refl

@@ -56,9 +56,11 @@ fn judge_accesses(
     least: &mut Option<Fault>,
 ) -> Result<(), OutOfMemory>
     requires items { map plain.plain_item items.now ≡ program_text symbols.now }
-    requires bodies { effects_lists bodies.now ≡ map (item_effects (program_text symbols.now)) (program_text symbols.now) }
+    requires bodies { effects_lists bodies.now ≡ map (item_effects (program_text symbols.now))
+        (program_text symbols.now) }
     requires order { Orders (program_text symbols.now) order.now }
-    ensures { OnOk result (least.new ≡ least_from least.old (access_faults (program_text symbols.now) (program_names symbols.now) (program_text symbols.now))) }
+    ensures { OnOk result (least.new ≡ least_from least.old (access_faults (program_text symbols.now)
+        (program_names symbols.now) (program_text symbols.now))) }
 {
     match start_name(symbols.names, items) {
         None => Ok(()),
@@ -85,9 +87,11 @@ fn least_late(
 ) -> Result<Option<Fault>, OutOfMemory>
     requires items { map plain.plain_item items.now ≡ indexed_text index.now }
     requires early { IsLeastOrNone None (IsEarly (indexed_text index.now) names.now) }
-    requires bodies { effects_lists program_notes.now.bodies.items ≡ map (item_effects (indexed_text index.now)) (indexed_text index.now) }
+    requires bodies { effects_lists program_notes.now.bodies.items
+        ≡ map (item_effects (indexed_text index.now)) (indexed_text index.now) }
     requires read { KnowsCalls (indexed_text index.now) calls.now }
-    ensures { IfOk result (λ least. least ≡ least_from None (access_faults (indexed_text index.now) names.now (indexed_text index.now)
+    ensures { IfOk result (λ least. least ≡ least_from None (access_faults (indexed_text index.now) names.now
+        (indexed_text index.now)
         ++ loops_faults (indexed_text index.now) (all_loops (indexed_text index.now)))) }
 {
     let symbols = Symbols { index, names };

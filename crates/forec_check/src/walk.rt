@@ -72,8 +72,10 @@ fn walk_function(
     notes: &mut Notes,
 ) -> Result<(), OutOfMemory>
     requires { notes.old.effects.items ≡ [] }
-    ensures least { OnOk result (JudgesFunction (program_text symbols.now) (program_names symbols.now) at counts f.now notes.old.least notes.new.least) }
-    ensures effects { OnOk result (notes.new.effects.items ≡ effects_of (faults.in_function (program_text symbols.now) (plain.plain_function f.now))) }
+    ensures least { OnOk result (JudgesFunction (program_text symbols.now) (program_names symbols.now) at counts f.now
+        notes.old.least notes.new.least) }
+    ensures effects { OnOk result (notes.new.effects.items ≡ effects_of
+        (faults.in_function (program_text symbols.now) (plain.plain_function f.now))) }
 {
     judge_head(
         symbols.index,
@@ -96,8 +98,10 @@ fn walk_item(
     notes: &mut Notes,
 ) -> Result<(), OutOfMemory>
     requires { notes.old.effects.items ≡ [] }
-    ensures least { OnOk result (JudgesItem (program_text symbols.now) (program_names symbols.now) at counts item.now notes.old.least notes.new.least) }
-    ensures effects { OnOk result (notes.new.effects.items ≡ effects_of (in_item (program_text symbols.now) (plain.plain_item item.now))) }
+    ensures least { OnOk result (JudgesItem (program_text symbols.now) (program_names symbols.now) at counts item.now
+        notes.old.least notes.new.least) }
+    ensures effects { OnOk result (notes.new.effects.items ≡ effects_of
+        (in_item (program_text symbols.now) (plain.plain_item item.now))) }
 {
     match item {
         Item::Global { global } => {
@@ -128,8 +132,10 @@ fn walk_items(
     requires items { map plain.plain_item items.now ≡ indexed_text index.now }
     requires none { program_notes.old.notes.effects.items ≡ [] }
     requires bodies { program_notes.old.bodies.items ≡ [] }
-    ensures least { OnOk result (JudgesItems (indexed_text index.now) names.now program_notes.old.notes.least program_notes.new.notes.least) }
-    ensures bodies { OnOk result (effects_lists program_notes.new.bodies.items ≡ map (item_effects (indexed_text index.now)) (indexed_text index.now)) }
+    ensures least { OnOk result (JudgesItems (indexed_text index.now) names.now program_notes.old.notes.least
+        program_notes.new.notes.least) }
+    ensures bodies { OnOk result (effects_lists program_notes.new.bodies.items
+        ≡ map (item_effects (indexed_text index.now)) (indexed_text index.now)) }
 {
     let symbols = Symbols { index, names };
     let mut scope = Scope::new(alloc);
@@ -162,8 +168,10 @@ pub fn walk_program(
     items: &[Item],
 ) -> Result<ProgramNotes, OutOfMemory>
     requires { map plain.plain_item items.now ≡ indexed_text index.now }
-    ensures least { IfOk result (λ c. c.notes.least ≡ least_from None (faults.text_faults (indexed_text index.now) names.now)) }
-    ensures bodies { IfOk result (λ c. effects_lists c.bodies.items ≡ map (item_effects (indexed_text index.now)) (indexed_text index.now)) }
+    ensures least { IfOk result (λ c. c.notes.least ≡ least_from None
+        (faults.text_faults (indexed_text index.now) names.now)) }
+    ensures bodies { IfOk result (λ c. effects_lists c.bodies.items
+        ≡ map (item_effects (indexed_text index.now)) (indexed_text index.now)) }
 {
     let mut program_notes = ProgramNotes {
         notes: Notes {

@@ -3,6 +3,7 @@ ghost use Rattle.std.specs.Prelude.{◌≡◌, ◌≤◌, length};
 ghost use Rattle.std.specs.List.{take_while};
 ghost use Rattle.forec_tree.specs.Lexis as lexis;
 
+/// White space: a blank, or one of the bytes 9 to 13 (tab, line feed, vertical tab, form feed, carriage return).
 pub fn is_space(byte: u8) -> bool
     ensures { result ≡ lexis.is_space byte }
 {
@@ -16,6 +17,7 @@ pub fn is_letter(byte: u8) -> bool
     byte == b'_' || byte >= b'a' && byte <= b'z' || byte >= b'A' && byte <= b'Z'
 }
 
+/// A decimal digit.
 pub fn is_digit(byte: u8) -> bool
     ensures { result ≡ lexis.is_digit byte }
 {

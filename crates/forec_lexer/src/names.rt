@@ -3,6 +3,7 @@ use forec_base::{Labels, OutOfMemory};
 use indexmap::IndexSet;
 use std::alloc::Global;
 
+/// The names of a text, numbered from 0 in the order in which they first stand in it.
 #[derive(Drop)]
 pub struct Names<'a> {
     /// The names as the text spells them, which tells their numbers.
@@ -17,6 +18,7 @@ impl<'a> Names<'a> {
     ghost use Rattle.forec_tree.specs.LexedText.{name_number, with_spelt_name};
     ghost use Rattle.forec_lexer.specs.Shown.{IsSame};
 
+    /// No names yet. The error is want of memory.
     pub fn new(alloc: Global) -> Result<Self, OutOfMemory>
         ensures empty { IfOk result (λ names. names.labels ≡ []) }
         ensures same { IfOk result (λ names. IsSame names) }
@@ -49,6 +51,7 @@ impl<'a> Names<'a> {
         Ok(id as u32)
     }
 
+    /// The names alone, each at its number.
     pub fn into_labels(self) -> Labels
         ensures { result ≡ self.entry.labels }
     {

@@ -16,6 +16,7 @@ pub struct Files<'r, R> {
 }
 
 impl<'r, R: FilesOf> Files<'r, R> {
+    /// Reads files through this runtime; none has failed yet.
     pub fn new(rt: &'r R) -> Self {
         Files {
             rt,

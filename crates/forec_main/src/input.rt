@@ -13,6 +13,7 @@ pub struct Input<R> {
 }
 
 impl<R: Read> Input<R> {
+    /// Reads what this reader gives; nothing has failed yet.
     pub fn new(inner: R) -> Self {
         Input {
             inner,

@@ -191,7 +191,8 @@ pub fn while_of(place: Place, test: Box<Expr>, bound: Option<Number>, body: Box<
 
 /// `for`
 pub fn for_of(place: Place, head: ForHead, bound: Option<Number>, body: Box<Stmt>) -> Stmt
-    ensures { statement result ≡ plain.For place (perhaps_in head.start) (optional_term_in head.test) (perhaps_in head.step) bound (statement_in body) }
+    ensures { statement result ≡ plain.For place (perhaps_in head.start) (optional_term_in head.test)
+        (perhaps_in head.step) bound (statement_in body) }
 {
     let ForHead { start, test, step } = head;
     Stmt {
@@ -271,7 +272,12 @@ pub fn give(place: Place, value: Box<Expr>) -> Stmt
 
 /// A function; it gives a number or is void.
 pub fn function(name: Name, gives: bool, params: Items<Name>, block: Block) -> Item
-    ensures { plain_item result ≡ IsFunction (record { name = name; gives = gives; params = params; body = in_order (map statement block.body) }) }
+    ensures { plain_item result ≡ IsFunction (record {
+      name = name;
+      gives = gives;
+      params = params;
+      body = in_order (map statement block.body);
+    }) }
 {
     let Block { place: _, body } = block;
     Item::Function {

@@ -119,7 +119,8 @@ fn changed(
     name: Name,
     index: Option<Box<Expr>>,
 ) -> Result<Stmt, Fault>
-    ensures { Reads statement (spec.changed max_level (written_at name (optional_term_in index)) tokens.old) result tokens.new }
+    ensures { Reads statement (spec.changed max_level (written_at name (optional_term_in index)) tokens.old) result
+        tokens.new }
 {
     match change_of(tokens.kind()) {
         Change::Sets => {

@@ -138,7 +138,8 @@ fn otherwise(
     test: Box<Expr>,
     yes: Box<Stmt>,
 ) -> Result<Stmt, Fault>
-    ensures { Reads statement (spec.otherwise max_level (spec.read_statement max_level depth) token (term_in test) (statement_in yes) tokens.old) result tokens.new }
+    ensures { Reads statement (spec.otherwise max_level (spec.read_statement max_level depth) token (term_in test)
+        (statement_in yes) tokens.old) result tokens.new }
 {
     tokens.enter(Fixed::Else)?;
     let no = nested(alloc, tokens, depth)?;
@@ -148,7 +149,8 @@ fn otherwise(
 #[cycle(stmt)]
 #[tactic(auto, unfolding(crate::specs::Statements::while_statement))]
 fn while_statement(alloc: Global, tokens: &mut Tokens<'_>, depth: usize) -> Result<Stmt, Fault>
-    ensures { Reads statement (spec.while_statement max_level (spec.read_statement max_level depth) tokens.old) result tokens.new }
+    ensures { Reads statement (spec.while_statement max_level (spec.read_statement max_level depth) tokens.old) result
+        tokens.new }
 {
     let outer = tokens.level();
     let token = tokens.enter(Fixed::While)?;
@@ -230,7 +232,8 @@ fn abort_statement(
     depth: usize,
     weak: bool,
 ) -> Result<Stmt, Fault>
-    ensures { Reads statement (spec.abort_statement max_level (spec.read_statement max_level depth) weak tokens.old) result tokens.new }
+    ensures { Reads statement (spec.abort_statement max_level (spec.read_statement max_level depth) weak tokens.old)
+        result tokens.new }
 {
     let outer = tokens.level();
     let token = tokens.enter(Fixed::Abort)?;

@@ -1,5 +1,6 @@
 -- The folded kernel is well formed.
-use Rattle.std.proofs.Common.{ℕ, zero, suc, ◌+◌, ◌<◌, ◌≤◌, ◌≡◌, ◌≢◌, max, ℤ, Bool, true, false, cond, ◌&&◌, ◌||◌, nat_lt, Option, Some, None, List, [], ◌∷◌, ◌++◌, length, map, get_or, refl, ap, sym, subst, ◌∙◌, arith}
+use Rattle.std.proofs.Common.{ℕ, zero, suc, ◌+◌, ◌<◌, ◌≤◌, ◌≡◌, ◌≢◌, max, ℤ, Bool, true, false, cond, ◌||◌, nat_lt, Option, Some, None, List, [], ◌∷◌, ◌++◌, length, map, get_or, refl, ap, sym, subst, ◌∙◌, arith, ⊎_elim, append-nil}
+use Rattle.std.proofs.lemmas.Bool.{and_parts, and_from, or_cases, or_left, or_right}
 use Rattle.std.proofs.lemmas.List.{length-map}
 use Rattle.forec_base.specs.declared.limits.TheConstants.{MAX_DEPTH, MAX_THREADS, MAX_FUNCTIONS}
 use Rattle.forec_base.specs.Numbers.{is_zero, binary_of}
@@ -82,13 +83,9 @@ module _ (A : Type 0) (of : Stmt → List A) (nop : of Nop ≡ []) where
   part_chosen (Some x) a b other ys s t u = part_either (is_zero x) b a ys t s
   part_chosen None a b other ys s t u = u
 
-right_nil : {A : Type 0} (xs : List A) → xs ++ [] ≡ xs
-right_nil [] = refl
-right_nil (x ∷ xs) = ap (λ ys. x ∷ ys) (right_nil xs)
-
 sequence_calls : (list : Stmts) → stmt_calls (in_sequence list) ≡ stmts_calls list
 sequence_calls no_stmts = refl
-sequence_calls (more_stmts s no_stmts) = sym (right_nil (stmt_calls s))
+sequence_calls (more_stmts s no_stmts) = sym (append-nil (stmt_calls s))
 sequence_calls (more_stmts s (more_stmts r rest)) = refl
 
 unless_calls : (b : Bool) (s : Stmt) (rest : Stmts) (xs ys : List ℕ) → Sub (stmt_calls s) xs → Sub (stmts_calls rest) ys →
@@ -136,7 +133,7 @@ threads_same (b ∷ bs) = ap (λ xs. b.thread ∷ xs) (threads_same bs)
 
 sequence_pars : (list : Stmts) → pars_of (in_sequence list) ≡ pars_in list
 sequence_pars no_stmts = refl
-sequence_pars (more_stmts s no_stmts) = sym (right_nil (pars_of s))
+sequence_pars (more_stmts s no_stmts) = sym (append-nil (pars_of s))
 sequence_pars (more_stmts s (more_stmts r rest)) = refl
 
 unless_pars : (b : Bool) (s : Stmt) (rest : Stmts) (xs ys : List (List ℕ)) → Sub (pars_of s) xs → Sub (pars_in rest) ys →
@@ -370,29 +367,8 @@ mutual
 
 -- ---- a function's body returns
 
-and_left : (a b : Bool) → (a && b) ≡ true → a ≡ true
-and_left true b h = refl
-and_left false b h = h
-
-and_right : (a b : Bool) → (a && b) ≡ true → b ≡ true
-and_right true b h = h
-and_right false b h = cc
-
-and_true : (a b : Bool) → a ≡ true → b ≡ true → (a && b) ≡ true
-and_true true b h g = g
-and_true false b h g = h
-
 or_more : (a b c d : Bool) → (a ≡ true → c ≡ true) → (b ≡ true → d ≡ true) → (a || b) ≡ true → (c || d) ≡ true
-or_more true b c d f g h = pick c (f refl)
-  where
-    pick : (c : Bool) → c ≡ true → (c || d) ≡ true
-    pick true e = refl
-    pick false e = cc
-or_more false b c d f g h = pick c (g h)
-  where
-    pick : (c : Bool) → d ≡ true → (c || d) ≡ true
-    pick true e = refl
-    pick false e = e
+or_more a b c d f g h = ⊎_elim (λ e. or_left c d (f e)) (λ e. or_right c d (g e)) (or_cases a b h)
 
 chosen_returns : (o : Option ℤ) (a b other : Stmt) → returns a ≡ true → returns b ≡ true → returns other ≡ true → returns (chosen_stmt o a b other) ≡ true
 chosen_returns (Some x) a b other h g i = pick (is_zero x)
@@ -427,10 +403,11 @@ mutual
   still_returns (Clear slot n) h = h
   still_returns (Seq list) h = sequence_returns (fold_stmts list) (still_some list h)
   still_returns (If e a b) h =
-      let x = still_returns a (and_left (returns a) (returns b) h) in
-      let y = still_returns b (and_right (returns a) (returns b) h) in
+      let both = and_parts (returns a) (returns b) h in
+      let x = still_returns a both.0 in
+      let y = still_returns b both.1 in
       chosen_returns (constant_of (fold_expr e)) (fold_stmt a) (fold_stmt b) (If (fold_expr e) (fold_stmt a) (fold_stmt b)) x y
-      (and_true (returns (fold_stmt a)) (returns (fold_stmt b)) x y)
+      (and_from (returns (fold_stmt a)) (returns (fold_stmt b)) x y)
   still_returns (While e bound body place) h = cc
   still_returns Pause h = h
   still_returns (Par branches) h = h

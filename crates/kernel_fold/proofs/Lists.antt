@@ -6,19 +6,9 @@ use Rattle.forec_kernel.specs.Terms.{Exprs, no_exprs, more_exprs, Stmt, Stmts, S
 use Rattle.forec_kernel.specs.Plain.{expr, exprs, stmt, stmts}
 use Rattle.forec_kernel.specs.declared.terms.Expression.{Expression}
 use Rattle.forec_kernel.specs.declared.terms.Statement.{Statement}
+use Rattle.forec_kernel.proofs.VecTerms.{joined_none, pushed}
+pub use Rattle.forec_kernel.proofs.VecTerms.{joined}
 use Rattle.kernel_fold.specs.Folding.{fold_expr, fold_exprs, is_nop, unless_nop, in_sequence, then_stmts, fold_stmt, fold_stmts}
-
-abbrev pub joined : Exprs → Exprs → Exprs
-joined no_exprs b = b
-joined (more_exprs e a) b = more_exprs e (joined a b)
-
-pub joined_none : (a : Exprs) → joined a no_exprs ≡ a
-joined_none no_exprs = refl
-joined_none (more_exprs e a) = ap (more_exprs e) (joined_none a)
-
-pub pushed : (xs : List Expression) (x : Expression) (rest : Exprs) → joined (exprs (xs ++ x ∷ [])) rest ≡ joined (exprs xs) (more_exprs (expr x) rest)
-pushed [] x rest = refl
-pushed (y ∷ xs) x rest = ap (more_exprs (expr y)) (pushed xs x rest)
 
 pub terms_step : (items : List Expression) (i : ℕ) (a : Expression) (xs ys : List Expression) (x : Expression) (whole : Exprs) →
     i < length items → get_or items i a ≡ a → expr x ≡ fold_expr (expr a) → ys ≡ xs ++ x ∷ [] →

@@ -1,5 +1,6 @@
 -- Ticks and runs of the folded kernel.
 use Rattle.std.proofs.Common.{ℕ, zero, suc, ◌+◌, ◌≤◌, ◌≡◌, ◌≢◌, ◌⊎◌, inl, inr, ⊎_elim, ℤ, Bool, true, false, not, ◌||◌, nat_lt, List, [], ◌∷◌, refl, ap, sym, subst, ◌∙◌, arith}
+use Rattle.std.proofs.lemmas.Bool.{or_parts, or_from, or_left}
 use Rattle.std.proofs.lemmas.Bool.Decides.{nat_tests}
 use Rattle.forec_kernel.specs.declared.shape.Outcome.TheVariants as outcome
 use Rattle.forec_kernel.specs.Shapes.{PlainKernel}
@@ -81,26 +82,14 @@ going_on k g g' l =
     (text_move (folded_kernel k) [] (uses_of k g.thread.number) g.thread.words g.thread.copies l.text)
     (step_like k [] (uses_of k g.thread.number) g.thread.words g.thread.copies g.thread.text l.text l.like))
 
-or_left : (a b : Bool) → (a || b) ≡ false → a ≡ false
-or_left true b e = e
-or_left false b e = refl
-
-or_right : (a b : Bool) → (a || b) ≡ false → b ≡ false
-or_right true b e = cc
-or_right false b e = e
-
-or_false : (a b : Bool) → a ≡ false → b ≡ false → (a || b) ≡ false
-or_false true b e f = cc
-or_false false b e f = f
-
 -- where a tick goes on, so does the one that goes with it
 goes_like : (budget : ℕ) (g g' : Going) → GoingLike g g' → is_stopped budget g ≡ false → is_stopped budget g' ≡ false
 goes_like budget g g' l h =
-    let within : nat_lt budget g.units ≡ false = or_right (not (is_running g.thread.status)) (nat_lt budget g.units) h in
+    let parts = or_parts (not (is_running g.thread.status)) (nat_lt budget g.units) h in
+    let within : nat_lt budget g.units ≡ false = parts.1 in
     let less = l.fewer in
     let fine : nat_lt budget l.units ≡ false = grind (arith, nat_tests) in
-    ap (is_stopped budget) l.is
-    ∙ or_false (not (is_running g.thread.status)) (nat_lt budget l.units) (or_left (not (is_running g.thread.status)) (nat_lt budget g.units) h) fine
+    ap (is_stopped budget) l.is ∙ or_from (not (is_running g.thread.status)) (nat_lt budget l.units) parts.0 fine
 
 -- the folded kernel's steps that go with so many
 pub record Along (k : PlainKernel) (budget n : ℕ) (g g' : Going) : Type 0 where
@@ -174,18 +163,14 @@ module _ (k : PlainKernel) (budget : ℕ) where
         one_stop (folded_kernel k) a.count r'.count (begin (folded_kernel k) old' row) still (ap stop (sym r'.along) ∙ r'.stopped) ∙ sym r'.along in
         subst (λ x. GoingLike (end_of k old row) x) same to
       where
-        or_from : (a b : Bool) → (a || b) ≡ true → b ≡ false → a ≡ true
-        or_from true b e f = refl
-        or_from false b e f = cc
-
-        or_true : (a b : Bool) → a ≡ true → (a || b) ≡ true
-        or_true true b e = refl
-        or_true false b e = cc
+        first_of : (a b : Bool) → (a || b) ≡ true → b ≡ false → a ≡ true
+        first_of true b e f = refl
+        first_of false b e f = cc
 
         stopped_like : (g g' : Going) → GoingLike g g' → stop g ≡ true → nat_lt budget g.units ≡ false → stop g' ≡ true
         stopped_like g g' l s h =
             ap stop l.is
-            ∙ or_true (not (is_running g.thread.status)) (nat_lt budget l.units) (or_from (not (is_running g.thread.status)) (nat_lt budget g.units) s h)
+            ∙ or_left (not (is_running g.thread.status)) (nat_lt budget l.units) (first_of (not (is_running g.thread.status)) (nat_lt budget g.units) s h)
 
 -- states between ticks: the same but for the text
 abbrev StateLike : TickState → TickState → Type 0

@@ -12,7 +12,6 @@ use Rattle.forec_kernel.specs.Combining.{contains}
 use Rattle.forec_kernel.specs.Values.{function_words}
 use Rattle.forec_kernel.specs.Texts.{body_of, words_in}
 use Rattle.forec_kernel.specs.WellFormed.{greatest, count_up, stmt_calls, stmt_depth, function_body, chain, thread_calls, Ranked}
-use Rattle.loop_check.proofs.IndexLemmas.{split}
 use Rattle.text_kernel.specs.declared.limits.Quantity.{Quantity}
 use Rattle.text_kernel.specs.declared.limits.Quantity.TheVariants.{Threads, Words, Globals, Tables, Terms, Depth}
 use Rattle.kernel_lower.specs.declared.lower_fault.LowerFault.{LowerFault}
@@ -29,38 +28,12 @@ use Rattle.kernel_lower.specs.Measures.{CallsLow, HasWords}
 use Rattle.kernel_lower.specs.Reach.{value_at}
 use Rattle.kernel_lower.proofs.Measuring.{greatest_capped}
 use Rattle.text_chains.specs.Peaks.{called_words, most_words}
+use Rattle.text_chains.proofs.Combined.{greatest_above, count_has, count_below}
 use Rattle.kernel_lower.specs.declared.judge.Amounts.{Amounts}
 use Rattle.kernel_lower.specs.Refusals.{amount_in, PassesLimit, First, HasLowerCause}
 use Rattle.text_sizes.proofs.Widening.{span_kept}
 use Rattle.text_sizes.proofs.Heights.{all_told, depth_in}
 use Rattle.text_sizes.proofs.Heights as heights
-
--- ---- the greatest of values
-
-pub greatest_least : (f : ℕ → ℕ) (xs : List ℕ) (x : ℕ) → ((g : ℕ) → contains g xs ≡ true → f g ≤ x) → greatest f xs ≤ x
-greatest_least f [] x h = omega arith
-greatest_least f (y ∷ ys) x h =
-    let e = h y (let q : (y == y) ≡ true = grind (arith, nat_tests) in ap (λ c. cond c true (contains y ys)) q) in
-    let d = greatest_least f ys x (λ g i. h g (elim (y == g) as (λ c. cond c true (contains g ys) ≡ true) [ true ↦ refl | false ↦ i ])) in
-    omega (arith, e, d)
-
-pub greatest_above : (f : ℕ → ℕ) (xs : List ℕ) (g : ℕ) → contains g xs ≡ true → f g ≤ greatest f xs
-greatest_above f [] g i = absurd (let q : false ≡ true = i in cc)
-greatest_above f (y ∷ ys) g i =
-    split (y == g) (λ e. (let q : y ≡ g = grind (arith, nat_tests) in let d = ap f q in omega (arith, d)))
-    (λ e. (let d = greatest_above f ys g (sym (ap (λ c. cond c true (contains g ys)) e) ∙ i) in omega (arith, d)))
-
-count_has : (from n g : ℕ) → from ≤ g → g < from + n → contains g (count_up from n) ≡ true
-count_has from zero g l h = absurd (omega (arith, l, h))
-count_has from (suc n) g l h =
-    split (from == g) (λ e. ap (λ c. cond c true (contains g (count_up (suc from) n))) e)
-    (λ e. (let q : suc from ≤ g = grind (arith, nat_tests) in ap (λ c. cond c true (contains g (count_up (suc from) n))) e ∙ count_has (suc from) n g q (omega (arith, h))))
-
-pub count_below : (from n g : ℕ) → contains g (count_up from n) ≡ true → g < from + n
-count_below from zero g i = absurd (let q : false ≡ true = i in cc)
-count_below from (suc n) g i =
-    split (from == g) (λ e. (let q : from ≡ g = grind (arith, nat_tests) in omega (arith, q)))
-    (λ e. (let r = count_below (suc from) n g (sym (ap (λ c. cond c true (contains g (count_up (suc from) n))) e) ∙ i) in omega (arith, r)))
 
 -- ---- words
 

@@ -1,31 +1,16 @@
--- A fact of an expression or a statement whose kind is known, marks, and limits.
-use Rattle.std.proofs.Common.{ℕ, zero, suc, ◌+◌, ◌-◌, ◌<◌, ◌≤◌, ◌≡◌, ◌∙◌, ◌||◌, ◌==◌, sym, ap, refl, subst, Bool, true, false, cond, List, [], ◌∷◌, ◌++◌, length, take, get_or, arith, Vec, Global}
+-- Marks, and limits.
+use Rattle.std.proofs.Common.{ℕ, zero, suc, ◌+◌, ◌-◌, ◌<◌, ◌≤◌, ◌≡◌, ◌∙◌, ◌||◌, ◌==◌, sym, ap, refl, subst, Bool, true, false, cond, List, [], ◌∷◌, ◌++◌, length, take, get_or, arith}
 use Rattle.std.proofs.Math.Seq.{take-append_seam}
 use Rattle.std.specs.Result.{IsErrAnd, IfErr}
 use Rattle.std.specs.Prelude.{Result, Ok, Err}
 use Rattle.forec_tree.specs.Faults.{is_in, Member, here, later}
-use Rattle.forec_kernel.specs.Terms as kernel
-use Rattle.forec_kernel.specs.Plain.{expr, exprs, stmt, stmts}
-use Rattle.forec_kernel.specs.declared.terms.Expression as rust_expr
-use Rattle.forec_kernel.specs.declared.terms.Statement as rust_stmt
 use Rattle.forec_kernel.specs.WellFormed.{count_up}
-use Rattle.forec_kernel.proofs.VecTerms.{expr-call, stmt-sequence}
 use Rattle.text_kernel.specs.declared.limits.Quantity.{Quantity}
 use Rattle.kernel_lower.specs.declared.lower_fault.LowerFault.{LowerFault}
 use Rattle.kernel_lower.specs.Drafts.{marked_from}
 use Rattle.text_kernel.specs.Limits.{limit_of, earlier}
 use Rattle.kernel_lower.specs.Marks.{is_marked, Marks}
 use Rattle.kernel_lower.specs.Refusals.{PassesLimit, First}
-
--- ---- kinds
-
-pub of_call : {A : Type 0} (F : kernel.Expr → A) (e : rust_expr.Expression) (f : ℕ) (args : Vec rust_expr.Expression Global) (slice : List rust_expr.Expression) → e ≡ rust_expr.Call f args → slice ≡ args.items →
-    F (kernel.Call f (exprs slice)) ≡ F (expr e)
-of_call F e f args slice is same = ap (λ l. F (kernel.Call f (exprs l))) same ∙ ap F (sym (ap expr is ∙ expr-call f args))
-
-pub of_sequence : {A : Type 0} (F : kernel.Stmt → A) (s : rust_stmt.Statement) (list : Vec rust_stmt.Statement Global) (slice : List rust_stmt.Statement) → s ≡ rust_stmt.Sequence list → slice ≡ list.items →
-    F (kernel.Seq (stmts slice)) ≡ F (stmt s)
-of_sequence F s list slice is same = ap (λ l. F (kernel.Seq (stmts l))) same ∙ ap F (sym (ap stmt is ∙ stmt-sequence list))
 
 -- ---- marks
 

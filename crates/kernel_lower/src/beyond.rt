@@ -52,9 +52,11 @@ pub fn foresee(
 ) -> Result<u64, LowerFault>
     requires free { (f : ℕ) → Leads (callees_of (indexed_text index.now)) f f → ⊥ }
     requires first { first ≡ main_id (indexed_text index.now) names.now }
-    requires threads { threads ≡ min (limits.amount quantity.Threads (kernel_of (indexed_text index.now) names.now)) (2 ^ 64 - 1) }
+    requires threads { threads ≡ min (limits.amount quantity.Threads (kernel_of (indexed_text index.now) names.now))
+        (2 ^ 64 - 1) }
     requires few { threads ≤ limits.limit_of quantity.Threads }
-    ensures words { OnOk result (limits.widest (kernel_of (indexed_text index.now) names.now).shape.threads ≤ limits.limit_of quantity.Words) }
+    ensures words { OnOk result (limits.widest (kernel_of (indexed_text index.now) names.now).shape.threads
+        ≤ limits.limit_of quantity.Words) }
     ensures levels { IfOk result
         (λ n. n ≤ limits.amount quantity.Depth (kernel_of (indexed_text index.now) names.now)) }
     ensures fault { IfErr result (λ e. HasLowerCause e (indexed_text index.now) names.now) }
@@ -74,7 +76,8 @@ fn chain_words(
     functions: &[&Function],
 ) -> Result<Vec<u64>, OutOfMemory>
     requires text { OneText source.now }
-    requires functions { functions_of functions.now ≡ int_functions (indexed_text source.now.globals.index) names.now (indexed_text source.now.globals.index) }
+    requires functions { functions_of functions.now ≡ int_functions (indexed_text source.now.globals.index) names.now
+        (indexed_text source.now.globals.index) }
     requires ranked { Ranked (kernel_of (indexed_text source.now.globals.index) names.now) }
     requires low { CallsLow (kernel_of (indexed_text source.now.globals.index) names.now) }
     ensures { IfOk result (λ list. HasWords (kernel_of (indexed_text source.now.globals.index) names.now) list.items) }
@@ -102,17 +105,23 @@ pub fn beyond(
 ) -> Result<(), LowerFault>
     requires text { OneText source.now }
     requires items { map plain_item items.now ≡ indexed_text source.now.globals.index }
-    requires functions { functions_of functions.now ≡ int_functions (indexed_text source.now.globals.index) names.now (indexed_text source.now.globals.index) }
+    requires functions { functions_of functions.now ≡ int_functions (indexed_text source.now.globals.index) names.now
+        (indexed_text source.now.globals.index) }
     requires free { (f : ℕ) → Leads (callees_of (indexed_text source.now.globals.index)) f f → ⊥ }
     requires faultless { Faultless (indexed_text source.now.globals.index) names.now }
     requires ranked { Ranked (kernel_of (indexed_text source.now.globals.index) names.now) }
     requires low { CallsLow (kernel_of (indexed_text source.now.globals.index) names.now) }
     requires first { known.first ≡ main_id (indexed_text source.now.globals.index) names.now }
-    requires threads { known.threads ≡ min (limits.amount quantity.Threads (kernel_of (indexed_text source.now.globals.index) names.now)) (2 ^ 64 - 1) }
-    requires variables { known.variables ≡ min (limits.amount quantity.Globals (kernel_of (indexed_text source.now.globals.index) names.now)) (2 ^ 64 - 1) }
-    requires terms { known.terms ≡ min (limits.amount quantity.Terms (kernel_of (indexed_text source.now.globals.index) names.now)) (2 ^ 64 - 1) }
-    requires levels { known.levels ≤ limits.amount quantity.Depth (kernel_of (indexed_text source.now.globals.index) names.now) }
-    ensures ok { OnOk result ((known.variables ≤ MAX_GLOBALS) × (known.terms ≤ MAX_TERMS) × (known.levels ≤ MAX_DEPTH)) }
+    requires threads { known.threads ≡ min (limits.amount quantity.Threads
+        (kernel_of (indexed_text source.now.globals.index) names.now)) (2 ^ 64 - 1) }
+    requires variables { known.variables ≡ min (limits.amount quantity.Globals
+        (kernel_of (indexed_text source.now.globals.index) names.now)) (2 ^ 64 - 1) }
+    requires terms { known.terms ≡ min (limits.amount quantity.Terms
+        (kernel_of (indexed_text source.now.globals.index) names.now)) (2 ^ 64 - 1) }
+    requires levels { known.levels ≤ limits.amount quantity.Depth
+        (kernel_of (indexed_text source.now.globals.index) names.now) }
+    ensures ok { OnOk result ((known.variables ≤ MAX_GLOBALS) × (known.terms ≤ MAX_TERMS)
+        × (known.levels ≤ MAX_DEPTH)) }
     ensures fault { IfErr result (λ e. HasLowerCause e (indexed_text source.now.globals.index) names.now) }
 {
     let values = chain_words(alloc, source, names, functions)?;

@@ -28,7 +28,8 @@ use std::alloc::Global;
 
 /// The bodies of all threads, in the order of their numbers.
 fn texts_of(alloc: Global, bodies: Bodies) -> Result<Vec<Statement>, OutOfMemory>
-    ensures { IfOk result (λ list. map kernel.stmt list.items ≡ kernel.stmt bodies.main ∷ map thread_body bodies.threads.items) }
+    ensures { IfOk result (λ list. map kernel.stmt list.items ≡ kernel.stmt bodies.main
+        ∷ map thread_body bodies.threads.items) }
 {
     let mut list = Vec::new(alloc);
     list.push(bodies.main)?;

@@ -27,7 +27,8 @@ fn add_array<'p>(
     global: &'p Declared,
     length: u32,
 ) -> Result<(), OutOfMemory>
-    ensures { OnOk result (plain_elements list.new.items ≡ plain_elements list.old.items ++ tree.elements_from (plain_global global.now) 0 length) }
+    ensures { OnOk result (plain_elements list.new.items ≡ plain_elements list.old.items
+        ++ tree.elements_from (plain_global global.now) 0 length) }
 {
     for i in 0..length {
         list.push(Element {
@@ -40,7 +41,8 @@ fn add_array<'p>(
 
 /// Adds the variables that a global is.
 fn add_global<'p>(list: &mut Vec<Element<'p>>, global: &'p Declared) -> Result<(), OutOfMemory>
-    ensures { OnOk result (plain_elements list.new.items ≡ plain_elements list.old.items ++ tree.variables_of (plain_global global.now)) }
+    ensures { OnOk result (plain_elements list.new.items ≡ plain_elements list.old.items
+        ++ tree.variables_of (plain_global global.now)) }
 {
     let Some(length) = global.stated_length() else {
         list.push(Element {

@@ -44,7 +44,8 @@ fn parts_of(
     deepest: u64,
 ) -> Result<KernelParts, LowerFault>
     requires names { names.now ≡ names_of checked.now }
-    requires threads { threads ≡ min (amount Threads (kernel_of (checked_text checked.now) (names_of checked.now))) (2 ^ 64 - 1) }
+    requires threads { threads ≡ min (amount Threads (kernel_of (checked_text checked.now) (names_of checked.now)))
+        (2 ^ 64 - 1) }
     requires few { threads ≤ limit_of Threads }
     ensures parts { IfOk result
         (λ parts. plain_kernel parts ≡ kernel_of (checked_text checked.now) (names_of checked.now)) }

@@ -33,7 +33,8 @@ pub fn int_functions<'p>(
     names: &Labels,
     items: &'p [Item],
 ) -> Result<Vec<&'p Function>, OutOfMemory>
-    ensures { IfOk result (λ list. functions_of list.items ≡ kernels.int_functions (indexed_text globals.now.index) names.now (map plain_item items.now)) }
+    ensures { IfOk result (λ list. functions_of list.items ≡ kernels.int_functions (indexed_text globals.now.index)
+        names.now (map plain_item items.now)) }
 {
     let mut list = Vec::new(alloc);
     for item in items {
@@ -66,8 +67,10 @@ fn translated<'p>(
     function: &'p Function,
 ) -> Result<IntFunction, OutOfMemory>
     requires { OneText source.now }
-    ensures shape { IfOk result (λ l. l.shape ≡ function_shape (indexed_text source.now.globals.index) names.now (plain_function function.now)) }
-    ensures body { IfOk result (λ l. kernel.stmt l.body ≡ function_text (indexed_text source.now.globals.index) names.now (plain_function function.now)) }
+    ensures shape { IfOk result (λ l. l.shape ≡ function_shape (indexed_text source.now.globals.index) names.now
+        (plain_function function.now)) }
+    ensures body { IfOk result (λ l. kernel.stmt l.body ≡ function_text (indexed_text source.now.globals.index)
+        names.now (plain_function function.now)) }
 {
     let params = count(function.params.len())?;
     let mut state = State::new(alloc);
@@ -94,8 +97,10 @@ pub fn lowered_functions<'p>(
     functions: &[&'p Function],
 ) -> Result<Functions, OutOfMemory>
     requires { OneText source.now }
-    ensures shapes { IfOk result (λ l. l.shapes.items ≡ map (function_shape (indexed_text source.now.globals.index) names.now) (functions_of functions.now)) }
-    ensures bodies { IfOk result (λ l. AreBodies (indexed_text source.now.globals.index) names.now (functions_of functions.now) l.bodies.items) }
+    ensures shapes { IfOk result (λ l. l.shapes.items ≡ map (function_shape (indexed_text source.now.globals.index)
+        names.now) (functions_of functions.now)) }
+    ensures bodies { IfOk result (λ l. AreBodies (indexed_text source.now.globals.index) names.now
+        (functions_of functions.now) l.bodies.items) }
 {
     let mut shapes = Vec::new(alloc);
     let mut bodies = Vec::new(alloc);

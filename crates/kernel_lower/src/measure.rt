@@ -110,8 +110,10 @@ pub fn most(alloc: Global, draft: &Draft) -> Result<Peak, OutOfMemory>
     requires ranked { Ranked (plain_draft draft.now) }
     requires low { CallsLow (plain_draft draft.now) }
     requires fits { IsConsistent draft.now }
-    ensures words { IfOk result (λ m. m.words ≡ min (limits.amount quantity.Words (plain_draft draft.now)) (2 ^ 64 - 1)) }
-    ensures depth { IfOk result (λ m. m.depth ≡ min (limits.amount quantity.Depth (plain_draft draft.now)) (2 ^ 64 - 1)) }
+    ensures words { IfOk result (λ m. m.words ≡ min (limits.amount quantity.Words (plain_draft draft.now))
+        (2 ^ 64 - 1)) }
+    ensures depth { IfOk result (λ m. m.depth ≡ min (limits.amount quantity.Depth (plain_draft draft.now))
+        (2 ^ 64 - 1)) }
 {
     let chains = chains_of(alloc, draft)?;
     let mut most = Peak { words: 0, depth: 0 };

@@ -22,7 +22,8 @@ fn launched(alloc: Global, launches: &[Launch]) -> Result<Vec<u32>, OutOfMemory>
 /// Adds the pars in a statement to a list, in order, each by the threads of its branches.
 #[cycle(pars)]
 pub fn pars(alloc: Global, found: &mut Vec<Vec<u32>>, s: &Statement) -> Result<(), OutOfMemory>
-    ensures { OnOk result (map list_items found.new.items ≡ map list_items found.old.items ++ of.pars_of (kernel.stmt s.now)) }
+    ensures { OnOk result (map list_items found.new.items ≡ map list_items found.old.items
+        ++ of.pars_of (kernel.stmt s.now)) }
 {
     match s {
         Statement::Sequence { list } => {
@@ -57,7 +58,8 @@ fn list_pars(
     found: &mut Vec<Vec<u32>>,
     list: &[Statement],
 ) -> Result<(), OutOfMemory>
-    ensures { OnOk result (map list_items found.new.items ≡ map list_items found.old.items ++ of.pars_in (kernel.stmts list.now)) }
+    ensures { OnOk result (map list_items found.new.items ≡ map list_items found.old.items
+        ++ of.pars_in (kernel.stmts list.now)) }
 {
     for s in list {
         pars(alloc, found, s)?;

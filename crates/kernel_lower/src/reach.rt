@@ -59,7 +59,8 @@ fn par_calls(
     threads: &[u32],
     uses: &[u32],
 ) -> Result<(), OutOfMemory>
-    ensures { OnOk result (calls.new.items ≡ calls.old.items ++ combine_by (has rows.now) (combine_at variables.now) threads.now uses.now) }
+    ensures { OnOk result (calls.new.items ≡ calls.old.items
+        ++ combine_by (has rows.now) (combine_at variables.now) threads.now uses.now) }
 {
     for variable in uses {
         if let Some(function) = combine_of(variables, *variable) {

@@ -130,7 +130,8 @@ fn shaped(
 
 /// All marks of so many variables.
 fn all_marks(alloc: Global, count: u32) -> Result<Vec<bool>, OutOfMemory>
-    ensures { IfOk result (λ marks. (length marks.items ≡ count) × ((v : ℕ) → v < count → slice_index_or marks.items v true ≡ true)) }
+    ensures { IfOk result (λ marks. (length marks.items ≡ count)
+        × ((v : ℕ) → v < count → slice_index_or marks.items v true ≡ true)) }
 {
     let mut marks = Vec::new(alloc);
     for _ in 0..count {
@@ -182,8 +183,10 @@ pub fn threads_of(
     first: u32,
     bodies: &Bodies,
 ) -> Result<Threads, OutOfMemory>
-    ensures shapes { IfOk result (λ t. map plain_thread t.shapes.items ≡ main_shape names.now count first bodies.now.words
-        ∷ bare_shapes names.now count (map of_thread bodies.now.threads.items) 0 (map of_thread bodies.now.threads.items)) }
+    ensures shapes { IfOk result (λ t. map plain_thread t.shapes.items
+        ≡ main_shape names.now count first bodies.now.words
+        ∷ bare_shapes names.now count (map of_thread bodies.now.threads.items) 0
+        (map of_thread bodies.now.threads.items)) }
     ensures rows { IfOk result (λ t. map row_uses t.rows.items ≡ map shape_uses t.shapes.items) }
 {
     let mut all = main_thread(alloc, names, count, first, bodies.words)?;

@@ -113,7 +113,8 @@ pub fn shapes(
     names: &Labels,
     elements: &[Element<'_>],
 ) -> Result<Vec<Variable>, OutOfMemory>
-    ensures { IfOk result (λ list. list.items ≡ map (kernels.variable_shape (indexed_text globals.now.index) names.now) (plain_elements elements.now)) }
+    ensures { IfOk result (λ list. list.items ≡ map (kernels.variable_shape (indexed_text globals.now.index) names.now)
+        (plain_elements elements.now)) }
 {
     let mut list = Vec::new(alloc);
     for e in elements {
@@ -129,7 +130,8 @@ pub fn inputs(
     names: &Labels,
     elements: &[Element<'_>],
 ) -> Result<Vec<u32>, OutOfMemory>
-    ensures { IfOk result (λ list. list.items ≡ kernels.numbers_of (indexed_text globals.now.index) names.now rules.is_input 0 (plain_elements elements.now)) }
+    ensures { IfOk result (λ list. list.items ≡ kernels.numbers_of (indexed_text globals.now.index) names.now
+        rules.is_input 0 (plain_elements elements.now)) }
 {
     let mut list = Vec::new(alloc);
     let mut number = 0u32;
@@ -149,7 +151,8 @@ pub fn outputs(
     names: &Labels,
     elements: &[Element<'_>],
 ) -> Result<Vec<u32>, OutOfMemory>
-    ensures { IfOk result (λ list. list.items ≡ kernels.numbers_of (indexed_text globals.now.index) names.now rules.is_output 0 (plain_elements elements.now)) }
+    ensures { IfOk result (λ list. list.items ≡ kernels.numbers_of (indexed_text globals.now.index) names.now
+        rules.is_output 0 (plain_elements elements.now)) }
 {
     let mut list = Vec::new(alloc);
     let mut number = 0u32;

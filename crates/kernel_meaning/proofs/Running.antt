@@ -1,5 +1,6 @@
 -- The steps of a tick, under its budget.
 use Rattle.std.proofs.Common.{◌≡◌, ◌∙◌, ℕ, ◌+◌, ◌*◌, ◌≤◌, ◌<◌, ◌||◌, ℤ, Bool, true, false, not, cond, nat_lt, inl, inr, Some, None, Result, Ok, Err, List, [], ◌∷◌, ◌++◌, refl, ap, sym, subst, arith}
+use Rattle.std.proofs.lemmas.Bool.{lt-ltb, or_right}
 use Rattle.std.proofs.lemmas.Bool.Decides.{nat_tests}
 use Rattle.forec_kernel.specs.declared.shape.Outcome.TheVariants as outcome
 use Rattle.forec_kernel.specs.Shapes.{PlainKernel}
@@ -27,9 +28,6 @@ steps_more k budget (p ∷ order) path g = steps_more k budget order path (tick_
 
 within : (budget units left : ℕ) → left + units ≡ budget → nat_lt budget units ≡ false
 within budget units left e = grind (arith, nat_tests)
-
-beyond : (budget units : ℕ) → budget < units → nat_lt budget units ≡ true
-beyond budget units h = grind (arith, nat_tests)
 
 going : (budget : ℕ) (t : Thread) (units left : ℕ) → is_running t.status ≡ true → left + units ≡ budget →
     is_stopped budget (record { thread = t; units = units }) ≡ false
@@ -141,14 +139,10 @@ pub tick_over : (k : PlainKernel) (budget : ℕ) (old : ticks.TickState) (row : 
     tick k budget old row ≡ told_tick k old None
 tick_over k budget old row p =
     let g = steps_along k budget p.order (begin k old row) in
-    let high : nat_lt budget g.units ≡ true = beyond budget g.units p.over in
+    let high : nat_lt budget g.units ≡ true = lt-ltb budget g.units p.over in
     sym (any_order k budget old row (told_tick k old None)
-    (record { order = p.order; stops = over_stops (not (is_running g.thread.status)) (nat_lt budget g.units) high; gives = sym (concludes g high) }))
+    (record { order = p.order; stops = or_right (not (is_running g.thread.status)) (nat_lt budget g.units) high; gives = sym (concludes g high) }))
   where
-    over_stops : (a b : Bool) → b ≡ true → (a || b) ≡ true
-    over_stops true b e = refl
-    over_stops false b e = e
-
     concludes : (g : Going) → nat_lt budget g.units ≡ true → concluded k budget old g ≡ told_tick k old None
     concludes g e = rw (concluded, e)
 

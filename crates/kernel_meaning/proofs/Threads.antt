@@ -1,5 +1,5 @@
 -- Threads after a step of their focus, and forks after a step of a child.
-use Rattle.std.proofs.Common.{◌≡◌, ◌∙◌, ℕ, zero, suc, ◌+◌, ◌-◌, ◌<◌, ◌==◌, ℤ, Bool, true, false, cond, Option, Some, None, Result, Ok, Err, List, [], ◌∷◌, refl, ap, sym, subst, arith}
+use Rattle.std.proofs.Common.{◌≡◌, ◌∙◌, ℕ, zero, suc, ◌+◌, ◌-◌, ◌<◌, ◌==◌, ℤ, true, false, cond, Option, Some, None, Result, Ok, Err, List, [], ◌∷◌, refl, ap, sym, subst, arith}
 use Rattle.std.proofs.lemmas.Bool.Decides.{nat_tests}
 use Rattle.forec_base.specs.declared.Place.{Place}
 use Rattle.forec_base.specs.declared.Trap.{Trap}
@@ -7,8 +7,9 @@ use Rattle.forec_kernel.specs.declared.terms.Spot.TheVariants as spot
 use Rattle.forec_kernel.specs.declared.shape.VarCopy.{VarCopy}
 use Rattle.forec_kernel.specs.Shapes.{PlainKernel}
 use Rattle.forec_kernel.specs.Texts as plain
-use Rattle.forec_kernel.specs.Texts.{RunningText, Fork, Thread, Threads, child_of, some_running, first_trap, is_running, first_running, uses_of}
-use Rattle.forec_kernel.specs.Steps.{Path, Move, Finished, Halts, Moves, Traps, thread_after, move_units, text_move, child_move, SteppedChildren, path_below, child_place, joined, thread_move}
+use Rattle.forec_kernel.specs.Texts.{RunningText, Fork, Thread, Threads, child_of, some_running, is_running, first_running, uses_of}
+use Rattle.forec_kernel.specs.Steps.{Path, Move, Finished, Halts, Moves, Traps, thread_after, move_units, text_move, child_move, SteppedChildren, path_below, child_place, thread_move}
+use Rattle.forec_kernel.proofs.Commute.{fork_step}
 use Rattle.running_texts.specs.declared.meter.Halt.{Halt}
 use Rattle.running_texts.specs.declared.meter.Halt.TheVariants.{Trapped, Over, OutOfMemory}
 use Rattle.running_threads.specs.declared.threads.Frame.{Frame}
@@ -44,16 +45,23 @@ plugged_units : (fs : List Frame) (w : List ℤ) (c : List VarCopy) (m : Move) �
 plugged_units [] w c m = refl
 plugged_units (f ∷ fs) w c m = framed_units f w c (plugged_move fs w c m) ∙ plugged_units fs w c m
 
+-- what a move of the focus leaves is what the thread's leaves
+plugged_left : (old new : ℕ) (fs : List Frame) (w : List ℤ) (c : List VarCopy) (m : Move) (u : ℕ) → move_units m ≡ u → new + u ≡ old →
+    new + move_units (plugged_move fs w c m) ≡ old
+plugged_left old new fs w c m u v l = let p = plugged_units fs w c m in omega (arith, p, v, l)
+
 -- ---- a thread after a step of its focus
 
 pub after_ok : {A : Type 0} (s : Origin) (a : Step) (old new : ℕ) (m : Move) (t now : Thread) (fs : List Frame) (x : A) → IsMoved s old new (Ok a) m →
     ((u : ℕ) → now ≡ thread_after t (plugged_move fs s.words s.copies (leads s a u))) →
     IsThread old new now (Ok x) (after_move t (plugged_move fs s.words s.copies m))
 after_ok s a old new m t now fs x h e =
-    let u = plugged_units fs s.words s.copies m in
-    let l = h.by.left in
-    let left : new + move_units (plugged_move fs s.words s.copies m) ≡ old = omega arith in
-    record { by = (e h.by.units ∙ ap (λ n. thread_after t (plugged_move fs s.words s.copies n)) (sym h.by.is), left) }
+    record {
+      by = (
+        e h.by.units ∙ ap (λ n. thread_after t (plugged_move fs s.words s.copies n)) (sym h.by.is),
+        plugged_left old new fs s.words s.copies m (move_units m) refl h.by.left,
+      );
+    }
 
 pub after_goes : (t now : Thread) (fs : List Frame) (w w' : List ℤ) (c c' : List VarCopy) (R : RunningText) (u : ℕ) →
     now ≡ record t { text = plugged fs R; words = w'; copies = c' } → now ≡ thread_after t (plugged_move fs w c (Moves R w' c' u))
@@ -63,15 +71,11 @@ pub after_trap : {A : Type 0} (s : Origin) (old new : ℕ) (m : Move) (t now : T
     IsMoved s old new (Err (Trapped place trap)) m → now ≡ record t { status = plain.Trapped place trap } →
     IsThread old new now (Ok x) (after_move t (plugged_move fs s.words s.copies m))
 after_trap s old new m t now fs x place trap h e =
-    let u = plugged_units fs s.words s.copies m in
-    let v = ap move_units h.by.is in
-    let l = h.by.left in
-    let left : new + move_units (plugged_move fs s.words s.copies m) ≡ old = omega arith in
     record {
       by = (
         e ∙ ap (thread_after t) (sym (plugged_traps fs s.words s.copies place trap h.by.units))
             ∙ ap (λ n. thread_after t (plugged_move fs s.words s.copies n)) (sym h.by.is),
-        left,
+        plugged_left old new fs s.words s.copies m h.by.units (ap move_units h.by.is) h.by.left,
       );
     }
 
@@ -97,15 +101,11 @@ forked_by : {A : Type 0} (old new : ℕ) (t now : Thread) (fs : List Frame) (R' 
     now ≡ record t { text = plugged fs R' } → IsChildStep old new t.words t.copies R' r inner →
     IsThread old new now r (after_move t (plugged_move fs t.words t.copies inner))
 forked_by old new t now fs R' (Ok x) inner same h =
-    let u = plugged_units fs t.words t.copies inner in
-    let v = ap move_units h.by.is in
-    let l = h.by.left in
-    let left : new + move_units (plugged_move fs t.words t.copies inner) ≡ old = omega arith in
     record {
       by = (
         after_goes t now fs t.words t.words t.copies t.copies R' h.by.units same
             ∙ ap (λ n. thread_after t (plugged_move fs t.words t.copies n)) (sym h.by.is),
-        left,
+        plugged_left old new fs t.words t.copies inner h.by.units (ap move_units h.by.is) h.by.left,
       );
     }
 forked_by old new t now fs R' (Err (Trapped place trap)) inner same h = record { by = h.by }
@@ -126,16 +126,8 @@ pub fork_goes : {A : Type 0} (k : PlainKernel) (path below : Path) (place : ℕ)
     (old new : ℕ) (r : Result A Halt) → some_running cs ≡ true → below ≡ path_below path cs → place ≡ child_place path cs →
     AreStepped old new now r (child_move k below place cs) → IsChildStep old new w c (Fork now) r (text_move k path uses w c (Fork cs))
 fork_goes k path below place uses w c cs now old new r some b p s =
-    let branch : Bool → Move =
-    λ t. elim t [
-      | true ↦
-          let s = child_move k (path_below path cs) (child_place path cs) cs in Moves (Fork s.children) w c s.units
-      | false ↦ joined (record { kernel = k; uses = uses }) w c cs (first_trap cs)
-    ] in
-    let given : child_move k below place cs ≡ child_move k (path_below path cs) (child_place path cs) cs =
-    ap (λ q. child_move k q place cs) b ∙ ap (λ i. child_move k (path_below path cs) i cs) p in
-    subst (λ t. IsChildStep old new w c (Fork now) r (branch t)) (sym some)
-    (subst (λ x. IsChildStep old new w c (Fork now) r (Moves (Fork x.children) w c x.units)) given (at r (child_move k below place cs) s))
+    subst (IsChildStep old new w c (Fork now) r) (sym (fork_step k path uses w c cs place below (child_move k below place cs) some (sym p) (sym b) refl))
+    (at r (child_move k below place cs) s)
   where
     at : {A : Type 0} (r : Result A Halt) (s : SteppedChildren) → AreStepped old new now r s → IsChildStep old new w c (Fork now) r (Moves (Fork s.children) w c s.units)
     at (Ok x) s h = record { by = record { units = s.units; is = ap (λ l. Moves (Fork l) w c s.units) (sym h.by.0); left = h.by.1 } }
@@ -182,17 +174,6 @@ others_step k path at old new t rest now r e h =
     by_case (Err OutOfMemory) h = record { by = tt }
 
 -- ---- a focus
-
-pub fork_joins : (k : PlainKernel) (path : Path) (uses : List ℕ) (w : List ℤ) (c : List VarCopy) (cs : Threads) → some_running cs ≡ false →
-    text_move k path uses w c (Fork cs) ≡ joined (record { kernel = k; uses = uses }) w c cs (first_trap cs)
-fork_joins k path uses w c cs none =
-    let branch : Bool → Move =
-    λ t. elim t [
-      | true ↦
-          let s = child_move k (path_below path cs) (child_place path cs) cs in Moves (Fork s.children) w c s.units
-      | false ↦ joined (record { kernel = k; uses = uses }) w c cs (first_trap cs)
-    ] in
-    ap branch none
 
 pub after_write : {A : Type 0} (s : Origin) (a : Step) (old new : ℕ) (m : Move) (t now : Thread) (fs : List Frame) (w' : List ℤ) (c' : List VarCopy) (R : RunningText) (x : A) →
     IsMoved s old new (Ok a) m → ((u : ℕ) → leads s a u ≡ Moves R w' c' u) → now ≡ record t { text = plugged fs R; words = w'; copies = c' } →

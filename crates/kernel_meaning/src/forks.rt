@@ -18,7 +18,8 @@ pub(crate) fn start_body<'k>(
     thread: u32,
     frames: &mut Vec<Frame<'k>>,
 ) -> Result<Focus<'k>, AllocError>
-    ensures { IfOk result (λ x. plugged frames.new.items (focused x) ≡ plugged frames.old.items (text_of (body_of (plain_kernel kernel.now) thread))) }
+    ensures { IfOk result (λ x. plugged frames.new.items (focused x)
+        ≡ plugged frames.old.items (text_of (body_of (plain_kernel kernel.now) thread))) }
 {
     let bodies = kernel.threads.as_slice();
     if (thread as usize) < bodies.len() {
@@ -38,7 +39,8 @@ pub(crate) fn start_children<'k>(
     arguments: &[Vec<i32>],
 ) -> Result<Children<'k>, AllocError>
     ensures { IfOk result (λ x. threads x ≡
-        started (record { kernel = plain_kernel kernel.now; uses = uses.now }) copies.now (map branch branches.now) (map (λ v. v.items) arguments.now)) }
+        started (record { kernel = plain_kernel kernel.now; uses = uses.now }) copies.now (map branch branches.now)
+        (map (λ v. v.items) arguments.now)) }
 {
     let mut at = branches.len().min(arguments.len());
     let mut rest = Children::Nobody;

@@ -24,7 +24,8 @@ fn fold_children(
     folds: Vec<Fold>,
     left: &mut u64,
 ) -> Result<Vec<Fold>, Halt>
-    ensures { IsMetered folding left.old left.new result (all_folds (plain_kernel kernel.now) (threads children.now) folds.items) }
+    ensures { IsMetered folding left.old left.new result (all_folds (plain_kernel kernel.now) (threads children.now)
+        folds.items) }
 {
     match children {
         Children::Nobody => Ok(folds),
@@ -47,7 +48,8 @@ fn add_marks(branch: &Lookup<'_>, variables: &[u32], marks: &mut Vec<bool>)
     requires long { length marks.old.items ≡ length variables.now }
     ensures long { length marks.new.items ≡ length variables.now }
     ensures each { (i : ℕ) → i < length variables.now → get_or marks.new.items i false
-        ≡ (marks_it branch.now.uses.now branch.now.copies.now (get_or variables.now i 0) || get_or marks.old.items i false) }
+        ≡ (marks_it branch.now.uses.now branch.now.copies.now (get_or variables.now i 0)
+        || get_or marks.old.items i false) }
 {
     for i in 0..variables.len() {
         if let Some(copy) = branch.find(variables[i]) {
@@ -99,7 +101,8 @@ fn end_folds(
     copies: &[VarCopy],
     folds: &[Fold],
 ) -> Result<Vec<VarCopy>, AllocError>
-    ensures { IfOk result (λ v. v.items ≡ folded_copies (plain_kernel kernel.now) (threads children.now) uses.now copies.now folds.now) }
+    ensures { IfOk result (λ v. v.items ≡ folded_copies (plain_kernel kernel.now) (threads children.now) uses.now
+        copies.now folds.now) }
 {
     let some = uses.len().min(folds.len());
     let marks = marks_of(alloc, kernel, uses, children)?;

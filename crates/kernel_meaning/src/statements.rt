@@ -259,7 +259,8 @@ fn after_put_at<'k>(
 }
 
 fn clear_step<'k>(slot: u32, length: u32, left: &mut u64) -> Result<Step<'k>, Halt>
-    ensures { (s : Origin) → IsMoved s left.old left.new result (Moves plain.Done (cleared s.words slot length) s.copies length) }
+    ensures { (s : Origin) → IsMoved s left.old left.new result
+        (Moves plain.Done (cleared s.words slot length) s.copies length) }
 {
     match pay(u64::from(length), left) {
         Ok(()) => Ok(Step::Clears { slot, length }),

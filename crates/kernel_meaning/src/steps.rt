@@ -266,7 +266,8 @@ fn fork_step<'k>(
     left: &mut u64,
 ) -> Result<(), Halt>
     requires { running_below (focused focus.old) ≡ true }
-    ensures { (uses : List ℕ) (w : List ℤ) (c : List VarCopy) → IsChildStep left.old left.new w c (focused focus.new) result
+    ensures { (uses : List ℕ) (w : List ℤ) (c : List VarCopy)
+        → IsChildStep left.old left.new w c (focused focus.new) result
         (text_move (plain_kernel kernel.now) path.now uses w c (focused focus.old)) }
 {
     match focus {
@@ -290,7 +291,8 @@ fn child_step<'k>(
     left: &mut u64,
 ) -> Result<(), Halt>
     ensures { AreStepped left.old left.new (threads children.new) result
-        (child_move (plain_kernel kernel.now) path.now (place_or_first at (threads children.old)) (threads children.old)) }
+        (child_move (plain_kernel kernel.now) path.now (place_or_first at (threads children.old))
+        (threads children.old)) }
 {
     if here(at, children) {
         return match children {

@@ -171,7 +171,8 @@ fn advance<'k>(
     main: &mut Thread<'k>,
     left: &mut u64,
 ) -> Result<(), Halt>
-    ensures { Advances (plain_kernel kernel.now) (plain_running_thread main.old) (plain_running_thread main.new) left.old left.new result }
+    ensures { Advances (plain_kernel kernel.now) (plain_running_thread main.old) (plain_running_thread main.new)
+        left.old left.new result }
 {
     match next_path(alloc, order, at, main) {
         Ok(path) => thread_step(alloc, kernel, &path, main, left),
@@ -188,8 +189,10 @@ fn run_free<'k>(
     main: &mut Thread<'k>,
     left: &mut u64,
 ) -> Result<(), Halt>
-    ensures on { CarriesOn (plain_kernel kernel.now) (plain_running_thread main.old) (plain_running_thread main.new) left.old left.new result }
-    ensures paid { IfOk result (λ _. (left.new ≤ left.old) × (is_running (plain_status main.new.status) ≡ true → left.new < left.old)) }
+    ensures on { CarriesOn (plain_kernel kernel.now) (plain_running_thread main.old) (plain_running_thread main.new)
+        left.old left.new result }
+    ensures paid { IfOk result (λ _. (left.new ≤ left.old) × (is_running (plain_status main.new.status) ≡ true
+        → left.new < left.old)) }
 {
     let before = *left;
     'free: while runs(main.status) {
@@ -215,7 +218,8 @@ fn run_tick<'k>(
     main: &mut Thread<'k>,
     left: &mut u64,
 ) -> Result<(), Halt>
-    ensures on { CarriesOn (plain_kernel kernel.now) (plain_running_thread main.old) (plain_running_thread main.new) left.old left.new result }
+    ensures on { CarriesOn (plain_kernel kernel.now) (plain_running_thread main.old) (plain_running_thread main.new)
+        left.old left.new result }
     ensures stopped { IfOk result (λ _. is_running (plain_status main.new.status) ≡ false) }
 {
     let mut at = 0;
@@ -237,7 +241,8 @@ fn tick_of<'k>(
     order: &[u32],
     budget: u64,
 ) -> Result<Option<Thread<'k>>, OutOfMemory>
-    ensures { IfOk result (λ o. tick_of_state kernel.now budget state.now row.now ≡ told_tick (plain_kernel kernel.now) (plain_state state.now) o) }
+    ensures { IfOk result (λ o. tick_of_state kernel.now budget state.now row.now
+        ≡ told_tick (plain_kernel kernel.now) (plain_state state.now) o) }
 {
     let mut left = budget;
     match begin_tick(alloc, kernel, state, row, &mut left) {
@@ -282,7 +287,8 @@ fn tell(kernel: &KernelParts, main: &Thread<'_>, outputs: &mut [i32]) -> Outcome
     requires { length outputs.old ≡ length kernel.now.shape.outputs.items }
     ensures outcome { result ≡ outcome_of (plain_status main.now.status) }
     ensures outputs { outputs.new ≡ cond (is_told (outcome_of (plain_status main.now.status)))
-        (values_of (uses_of (plain_kernel kernel.now) 0) main.now.copies.items kernel.now.shape.outputs.items) outputs.old }
+        (values_of (uses_of (plain_kernel kernel.now) 0) main.now.copies.items kernel.now.shape.outputs.items)
+        outputs.old }
 {
     let outcome = outcome(main.status);
     if tells(outcome) {
@@ -318,7 +324,8 @@ pub fn rewrite_tick<'k>(
     requires { length outputs.old ≡ length kernel.now.shape.outputs.items }
     ensures outcome { IfOk result (λ p. p.0 ≡ (tick_of_state kernel.now budget state.now row.now).outcome) }
     ensures state { IfOk result (λ p. plain_state p.1 ≡ (tick_of_state kernel.now budget state.now row.now).state) }
-    ensures outputs { IfOk result (λ p. outputs.new ≡ cond (is_told p.0) (tick_of_state kernel.now budget state.now row.now).outputs outputs.old) }
+    ensures outputs { IfOk result (λ p. outputs.new ≡ cond (is_told p.0)
+        (tick_of_state kernel.now budget state.now row.now).outputs outputs.old) }
     ensures err { OnErr result (outputs.new ≡ outputs.old) }
 {
     let parts = kernel.parts();

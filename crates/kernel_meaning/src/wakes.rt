@@ -56,7 +56,8 @@ fn wake_frames<'k>(
     after: &mut Vec<Frame<'k>>,
     left: &mut u64,
 ) -> Result<Reach, Halt>
-    ensures { IsReached (fate_in_thread kernel.now values.now frames.now) after.old.items after.new.items left.old left.new result }
+    ensures { IsReached (fate_in_thread kernel.now values.now frames.now) after.old.items after.new.items left.old
+        left.new result }
 {
     match frames {
         [] => Ok(Reach::Focus),
@@ -103,7 +104,8 @@ fn with_text<'k>(
     focus: Focus<'k>,
     copies: Vec<VarCopy>,
 ) -> Result<Thread<'k>, AllocError>
-    ensures { IfOk result (λ x. plain_running_thread x ≡ awake (plain_running_thread t.now) (plugged frames.entry.items (focused focus.entry)) copies.items) }
+    ensures { IfOk result (λ x. plain_running_thread x ≡ awake (plain_running_thread t.now)
+        (plugged frames.entry.items (focused focus.entry)) copies.items) }
 {
     let words = Vec::from_slice(alloc, &t.words)?;
     Ok(Thread {
@@ -123,7 +125,8 @@ fn trapped_at<'k>(
     copies: Vec<VarCopy>,
     status: Status,
 ) -> Result<Thread<'k>, AllocError>
-    ensures { IfOk result (λ x. plain_running_thread x ≡ record (plain_running_thread t.now) { copies = copies.items; status = plain_status status }) }
+    ensures { IfOk result (λ x. plain_running_thread x ≡ record (plain_running_thread t.now)
+        { copies = copies.items; status = plain_status status }) }
 {
     let mut stays = duplicate_thread(alloc, t)?;
     stays.copies = copies;
@@ -141,7 +144,8 @@ pub(crate) fn wake_thread<'k>(
     copies: Vec<VarCopy>,
     left: &mut u64,
 ) -> Result<Thread<'k>, Halt>
-    ensures { WokenTo left.old left.new result (woken_going (plain_kernel kernel.now) uses.now (plain_running_thread t.now) copies.items) }
+    ensures { WokenTo left.old left.new result (woken_going (plain_kernel kernel.now) uses.now
+        (plain_running_thread t.now) copies.items) }
 {
     let mut frames = Vec::new(alloc);
     let values = ThreadValues {
@@ -177,7 +181,8 @@ fn wake_focus<'k>(
     focus: &Focus<'k>,
     left: &mut u64,
 ) -> Result<Focus<'k>, Halt>
-    ensures { (words : List ℤ) → IsMetered waking_kind left.old left.new result (woken (plain_kernel kernel.now) uses.now words copies.now (focused focus.now)) }
+    ensures { (words : List ℤ) → IsMetered waking_kind left.old left.new result
+        (woken (plain_kernel kernel.now) uses.now words copies.now (focused focus.now)) }
 {
     match focus {
         Focus::Resting => Ok(Focus::Done),
@@ -204,7 +209,8 @@ fn wake_children<'k>(
     children: &Children<'k>,
     left: &mut u64,
 ) -> Result<Children<'k>, Halt>
-    ensures { AreWoken left.old left.new result (woken_children (plain_kernel kernel.now) uses.now copies.now (threads children.now)) }
+    ensures { AreWoken left.old left.new result (woken_children (plain_kernel kernel.now) uses.now copies.now
+        (threads children.now)) }
 {
     match children {
         Children::Nobody => Ok(Children::Nobody),

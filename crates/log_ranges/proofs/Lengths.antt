@@ -18,7 +18,7 @@ use Rattle.forec_kernel.specs.Solo.{values_in}
 use Rattle.forec_kernel.specs.WellFormed.{WellFormed, blank_thread, count_up}
 use Rattle.forec_kernel.specs.Composed.{TickInput, tick_job}
 use Rattle.thread_code.specs.Laws.{FitsThread}
-use Rattle.log_ranges.proofs.Ticks.{StateHas, tick_keeps}
+use Rattle.value_ranges.proofs.Kept.{StateHas, tick_keeps}
 
 -- ---- lists of copies
 

@@ -3,7 +3,6 @@ pub mod Moves
 pub mod Told
 pub mod Solos
 pub mod Sizes
-pub mod Ticks
 pub mod Starts
 pub mod Lengths
 pub mod Whole

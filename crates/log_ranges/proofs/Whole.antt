@@ -14,10 +14,11 @@ use Rattle.value_ranges.specs.Words.{KernelWords}
 use Rattle.exchange_meaning.specs.Logged.{Logged}
 use Rattle.exchange_meaning.specs.OfShape.{HasJobNumbers, AreOfThread, IsOfShape}
 use Rattle.exchange_meaning.proofs.Replayed.{logs_agree}
+use Rattle.value_ranges.proofs.Ticks.{StateFits, tick_fits}
 use Rattle.log_ranges.specs.Laws.{TurnFits, LogsFit}
 use Rattle.log_ranges.proofs.Told.{AreLogged, log_good}
 use Rattle.log_ranges.proofs.Solos.{JobFits, ReplyFits, numbers_told}
-use Rattle.log_ranges.proofs.Starts.{StateFits, tick_fits, job_numbers}
+use Rattle.log_ranges.proofs.Starts.{job_numbers}
 use Rattle.log_ranges.proofs.Sizes.{JobSized, ReplySized, sizes_told}
 use Rattle.log_ranges.proofs.Lengths.{StateLong, tick_long, job_long}
 
@@ -27,7 +28,7 @@ module _ (k : PlainKernel) (numbers : KernelWords k) where
   jobs_numbers : (old : TickState) (turns : List TickInput) → StateFits old → AllByRecursion TurnFits turns → AllByRecursion HasJobNumbers (tick_jobs k old turns)
   jobs_numbers old [] h f = tt
   jobs_numbers old (turn ∷ turns) h f =
-      (job_numbers k numbers old turn h f.0, jobs_numbers (next_state k old turn) turns (tick_fits k numbers turn.budget old turn.row h f.0.row) f.1)
+      (job_numbers k numbers old turn h f.0, jobs_numbers (next_state k old turn) turns (tick_fits k numbers turn.budget old turn.row h f.0.row).state f.1)
 
 module _ (k : PlainKernel) (fine : WellFormed k) where
   jobs_long : (old : TickState) (turns : List TickInput) → StateLong k old → AllByRecursion (FitsThread k.shape 0) (tick_jobs k old turns)

@@ -5,27 +5,8 @@ use Rattle.std.proofs.lemmas.List.Elements.{All-append}
 use Rattle.forec_kernel.specs.Combining.{contains}
 use Rattle.forec_kernel.specs.WellFormed.{distinct}
 use Rattle.core_seats.specs.Loads.{AreAll}
-use Rattle.core_seats.proofs.LoadLemmas.{contains_not}
+use Rattle.core_seats.proofs.LoadLemmas.{same_it, contains_not, contains_front, contains_last}
 use Rattle.log_runs.specs.Logging.{numbers_below}
-
-same_it : (a : ℕ) → (a == a) ≡ true
-same_it a = grind (arith, nat_tests)
-
-contains_front : (v : ℕ) (l : List ℕ) (x : ℕ) → contains v l ≡ true → contains v (l ++ x ∷ []) ≡ true
-contains_front v [] x h = cc
-contains_front v (y ∷ l) x h = pick (y == v) h (contains_front v l x)
-  where
-    pick : (t : Bool) → cond t true (contains v l) ≡ true → (contains v l ≡ true → contains v (l ++ x ∷ []) ≡ true) → cond t true (contains v (l ++ x ∷ [])) ≡ true
-    pick true h ih = refl
-    pick false h ih = ih h
-
-contains_last : (v : ℕ) (l : List ℕ) → contains v (l ++ v ∷ []) ≡ true
-contains_last v [] = ap (λ b. cond b true false) (same_it v)
-contains_last v (y ∷ l) = ap (λ b. cond (y == v) true b) (contains_last v l) ∙ either (y == v)
-  where
-    either : (t : Bool) → cond t true true ≡ true
-    either true = refl
-    either false = refl
 
 cond_not : (a b : Bool) → cond a false b ≡ true → (a ≡ false) × (b ≡ true)
 cond_not true b e = absurd (let bad : false ≡ true = e in cc)

@@ -1,6 +1,7 @@
 -- How many values of a rising or falling run pass.
 use Rattle.std.proofs.Common.{ℕ, zero, suc, ◌+◌, ◌-◌, ◌*◌, ◌<◌, ◌≤◌, ◌≡◌, ◌∙◌, ap, refl, Bool, true, false, ℤ, pos, negsuc, ◌+ℤ◌, ◌-ℤ◌, neg_ℤ, ◌≤ℤ◌, ◌<ℤ◌, Option, Some, None, arith}
-use Rattle.std.specs.Prelude.{int_lt, int_le}
+use Rattle.std.specs.Prelude.{int_lt, int_le, FitsSigned}
+use Rattle.std.specs.Int.{w32}
 use Rattle.std.proofs.lemmas.Int.{ints}
 use Rattle.forec_tree.specs.Turns.{is_i32, values_passed}
 use Rattle.forec_tree.proofs.Runs.{value_at, run_is, run_none, run_out}
@@ -24,6 +25,9 @@ lt_false a b h = grind (arith, ints)
 
 pub in_32 : (a : ℤ) → negsuc 2147483647 ≤ℤ a → a ≤ℤ pos 2147483647 → is_i32 a ≡ true
 in_32 a l h = grind (arith, ints)
+
+pub fits_32 : (a : ℤ) → FitsSigned w32 a → is_i32 a ≡ true
+fits_32 a h = in_32 a (omega (arith, ints, h)) (omega (arith, ints, h))
 
 pub out_32 : (a : ℤ) → pos 2147483647 <ℤ a → is_i32 a ≡ false
 out_32 a h = grind (arith, ints)

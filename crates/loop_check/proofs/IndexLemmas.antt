@@ -1,6 +1,7 @@
 -- What an entry tells of the items of its name.
 use Rattle.std.proofs.Common.{ℕ, zero, suc, ◌+◌, ◌==◌, ◌<◌, ◌≤◌, ◌≡◌, ◌∙◌, sym, ap, refl, ◌⊎◌, inl, inr, ⊎_elim, Bool, true, false, cond, not, ◌&&◌, ◌||◌, Some, None, [], ◌∷◌, take, arith}
 use Rattle.std.specs.Prelude.{nat_le, slice_get}
+use Rattle.std.proofs.Math.Bool.{or_assoc}
 use Rattle.std.proofs.lemmas.Bool.Decides.{nat_tests}
 use Rattle.forec_tree.specs.Terms.{Text, PlainItem, IsGlobal, IsFunction}
 use Rattle.forec_tree.specs.Scopes.{name_of, find_item}
@@ -9,10 +10,6 @@ use Rattle.forec_tree.specs.Rules.{is_none}
 use Rattle.forec_tree.specs.Faults.{item_named}
 use Rattle.loop_check.specs.declared.entry.Entry.{Entry}
 use Rattle.loop_check.specs.Index.{met, noted_item, entry_from}
-
-or_assoc : (a b d : Bool) → ((a || b) || d) ≡ (a || (b || d))
-or_assoc true b d = refl
-or_assoc false b d = refl
 
 global_step : (id at : ℕ) (x : PlainItem) (e : Entry) (rest : Text) → ((noted_item id at x e).global || global_named id rest) ≡ (e.global || global_named id (x ∷ rest))
 global_step id at (IsGlobal g) e rest =

@@ -1,11 +1,14 @@
 -- Orders of functions, one put after the other.
 use Rattle.std.proofs.Common.{ℕ, zero, suc, ◌+◌, ◌<◌, ◌≤◌, ◌≡◌, ◌≢◌, ◌∙◌, ◌==◌, sym, ap, refl, ⊎_elim, Bool, true, false, cond, not, ◌&&◌, ◌||◌, List, [], ◌∷◌, ◌++◌, length, take, set, get_or, subst, arith, length-append, get_or-set_other, get_or-set_same}
 use Rattle.std.proofs.lemmas.Bool.Decides.{nat_tests}
-use Rattle.std.proofs.lemmas.Bool.{cases_lt, eqb-true}
+use Rattle.std.proofs.lemmas.Bool.{cases_lt, eqb-true, and_parts, not-true}
 use Rattle.std.proofs.lemmas.List.{take-append-le, get_or_append_left}
+use Rattle.std.proofs.Math.Bool.{or-true, or-false, and-false}
 use Rattle.std.proofs.Math.Seq.{take-append_seam, get_or-append_seam, take-suc}
 use Rattle.forec_tree.specs.Faults.{is_in}
-use Rattle.loop_check.specs.Graph.{CalleesFirst, IsOrder, trues, any_waits, MarksUnordered, Held, set_at}
+use Rattle.std.specs.declared.vec.Vec.{Vec}
+use Rattle.std.specs.declared.alloc.Global.{Global}
+use Rattle.loop_check.specs.Graph.{callees, CalleesFirst, IsOrder, trues, any_waits, MarksUnordered, Held, set_at}
 use Rattle.loop_check.proofs.IndexLemmas.{split}
 
 same_id : (f : ℕ) → (f == f) ≡ true
@@ -80,32 +83,10 @@ any_yes marks (x ∷ xs) h =
     let r = rest (sym (ap (λ b. b || any_waits marks xs) e) ∙ h) in
     record { one = r.one; stands = elim (x == r.one) as (λ b. cond b true (is_in r.one xs) ≡ true) [ true ↦ refl | false ↦ r.stands ]; waits = r.waits })
 
-and_left : (a b : Bool) → (a && b) ≡ true → a ≡ true
-and_left true b h = refl
-and_left false b h = h
-
-and_right : (a b : Bool) → (a && not b) ≡ true → b ≡ false
-and_right true true h = sym h
-and_right true false h = refl
-and_right false true h = sym h
-and_right false false h = refl
-
 not_in : (a b : Bool) → a ≡ true → false ≡ (a && not b) → b ≡ true
 not_in true true h e = refl
 not_in true false h e = e
 not_in false b h e = absurd (let q : true ≡ false = sym h in cc)
-
-or_true : (a : Bool) → (a || true) ≡ true
-or_true true = refl
-or_true false = refl
-
-or_false : (a : Bool) → (a || false) ≡ a
-or_false true = refl
-or_false false = refl
-
-and_false : (a : Bool) → (a && false) ≡ false
-and_false true = refl
-and_false false = refl
 
 pub in_marks : (marks : List Bool) (f : ℕ) → get_or marks f false ≡ true → f < length marks
 in_marks [] f h = absurd (let q : false ≡ true = h in cc)
@@ -126,10 +107,10 @@ module _ (functions : List ℕ) (calls : ℕ → List ℕ) (marks : List Bool) (
       (λ e.
       let q : f ≡ g = eqb-true f g e in
       ap (λ n. get_or (set marks f false) n false) (sym q) ∙ get_or-set_same marks f false false (in_marks marks f m)
-      ∙ sym (ap (λ b. is_in g functions && not b) (is_in_snoc g f order ∙ ap (λ b. is_in g order || b) e ∙ or_true (is_in g order)) ∙ and_false (is_in g functions)))
+      ∙ sym (ap (λ b. is_in g functions && not b) (is_in_snoc g f order ∙ ap (λ b. is_in g order || b) e ∙ or-true (is_in g order)) ∙ and-false (is_in g functions)))
       (λ e.
       get_or-set_other marks f g false false (other_id f g e) ∙ w.right g
-      ∙ sym (ap (λ b. is_in g functions && not b) (is_in_snoc g f order ∙ ap (λ b. is_in g order || b) e ∙ or_false (is_in g order))))
+      ∙ sym (ap (λ b. is_in g functions && not b) (is_in_snoc g f order ∙ ap (λ b. is_in g order || b) e ∙ or-false (is_in g order))))
 
   first_next : any_waits marks (calls f) ≡ false → CalleesFirst functions calls (order ++ f ∷ [])
   first_next a k g h c i =
@@ -164,12 +145,12 @@ module _ (functions : List ℕ) (calls : ℕ → List ℕ) (marks : List Bool) (
             let waits : get_or marks h false ≡ true = w.right h ∙ rw (i, o) refl in
             let any = held at.place at.low (ap (λ n. get_or marks n false) at.is ∙ waits) in
             let one = any_yes marks (calls h) (sym (ap (λ n. any_waits marks (calls n)) at.is) ∙ any) in
-            let both = sym (w.right one.one) ∙ one.waits in
+            let both = and_parts (is_in one.one functions) (not (is_in one.one order)) (sym (w.right one.one) ∙ one.waits) in
             record {
               callee = one.one;
               called = one.stands;
-              stands = and_left (is_in one.one functions) (not (is_in one.one order)) both;
-              left = and_right (is_in one.one functions) (is_in one.one order) both;
+              stands = both.0;
+              left = not-true (is_in one.one order) both.1;
             };
         short = let s = w.short in omega (arith, s);
       }
@@ -191,3 +172,7 @@ marked_step functions i g before after h a b =
       | false ↦ elim (is_in g (take i functions)) as (λ x. x ≡ (x || false)) [ true ↦ refl | false ↦ refl ]
     ])
     ∙ sym (is_in_snoc g (get_or functions i 0) (take i functions)) ∙ ap (is_in g) (sym (take-suc functions i 0 h)) ∙ ap (λ n. is_in g (take n functions)) (sym e)
+
+-- an order of the functions and the lists that were lent is one of these
+pub order_lent : {functions lent order : List ℕ} {lists rows : List (Vec ℕ Global)} → lent ≡ functions → rows ≡ lists → IsOrder lent (callees rows) order → IsOrder functions (callees lists) order
+order_lent {functions} {lent} {order} {lists} {rows} f l o = subst (λ x. IsOrder functions (callees x) order) l (subst (λ x. IsOrder x (callees rows) order) f o)

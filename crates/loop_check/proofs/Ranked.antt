@@ -1,5 +1,6 @@
 -- Ranks that no call leads above.
 use Rattle.std.proofs.Common.{ℕ, suc, ◌+◌, ◌<◌, ◌≤◌, ◌≡◌, ◌∙◌, ◌==◌, sym, ap, subst, Bool, true, false, cond, ◌||◌, List, [], ◌∷◌, ◌++◌, length, take, get_or, arith}
+use Rattle.std.proofs.Math.Bool.{or-false}
 use Rattle.std.proofs.Math.Seq.{take-suc}
 use Rattle.std.proofs.lemmas.Bool.{eqb-true}
 use Rattle.forec_tree.specs.Faults.{is_in, Leads, at_once, through}
@@ -14,11 +15,7 @@ next_in P list i h all one k e =
     let x = get_or list i 0 in
     let t : take (i + 1) list ≡ take i list ++ x ∷ [] = let n : i + 1 ≡ suc i = omega arith in ap (λ m. take m list) n ∙ take-suc list i 0 h in
     split (x == k) (λ q. subst P (eqb-true x k q) one)
-    (λ q. all k (or_left (is_in k (take i list)) (sym (ap (λ b. is_in k (take i list) || b) q) ∙ sym (is_in_snoc k x (take i list)) ∙ ap (is_in k) (sym t) ∙ e)))
-  where
-    or_left : (b : Bool) → (b || false) ≡ true → b ≡ true
-    or_left true h = h
-    or_left false h = h
+    (λ q. all k (sym (or-false (is_in k (take i list))) ∙ (sym (ap (λ b. is_in k (take i list) || b) q) ∙ sym (is_in_snoc k x (take i list)) ∙ ap (is_in k) (sym t) ∙ e)))
 
 module _ (calls : ℕ → List ℕ) (ranks : List ℕ) (up : NeverUp calls ranks) where
   leads_down : {f g : ℕ} → Leads calls f g → rank_at ranks g ≤ rank_at ranks f

@@ -2,6 +2,7 @@
 use Rattle.std.proofs.Common.{ℕ, zero, suc, ◌+◌, ◌<◌, ◌≤◌, ◌≡◌, ◌∙◌, ◌==◌, sym, ap, refl, Bool, true, false, cond, not, ◌||◌, Option, Some, None, List, [], ◌∷◌, ◌++◌, length, take, get_or, subst, arith, length-append}
 use Rattle.std.specs.Prelude.{slice_get}
 use Rattle.std.proofs.lemmas.Bool.{eqb-true}
+use Rattle.std.proofs.Math.Bool.{or-true, or-false}
 use Rattle.std.proofs.Math.Seq.{take-suc}
 use Rattle.forec_tree.specs.Terms.{Text, PlainItem, IsGlobal, IsFunction, PlainFunction}
 use Rattle.forec_tree.specs.Scopes.{name_of, find_item}
@@ -113,8 +114,8 @@ read_function of xs f functions list calls next h e put r =
           is_in_snoc id f.name.id functions ∙ ap (λ b. b || (f.name.id == id)) (r.stands id)
           ∙ sym (ap (λ q. not (is_none q)) (found_new id xs (IsFunction f) h)
           ∙ (elim (f.name.id == id) as (λ b. not (is_none (cond b (Some f) (find_function id xs))) ≡ (not (is_none (find_function id xs)) || b)) [
-            | true ↦ or_true (not (is_none (find_function id xs)))
-            | false ↦ or_false (not (is_none (find_function id xs)))
+            | true ↦ sym (or-true (not (is_none (find_function id xs))))
+            | false ↦ sym (or-false (not (is_none (find_function id xs))))
           ]));
       lists = λ id.
           put id ∙ ap (λ l. put_entry f.name.id id l (calls id)) e ∙ ap (put_entry f.name.id id (of f)) (r.lists id)
@@ -125,14 +126,6 @@ read_function of xs f functions list calls next h e put r =
           let m = length-append functions (f.name.id ∷ []) in
           let w = r.few in omega (arith, n, m, w);
     }
-  where
-    or_true : (a : Bool) → true ≡ (a || true)
-    or_true true = refl
-    or_true false = refl
-
-    or_false : (a : Bool) → a ≡ (a || false)
-    or_false true = refl
-    or_false false = refl
 
 -- ---- a table that is judged in order
 

@@ -1,5 +1,6 @@
 -- A search through the calls.
 use Rattle.std.proofs.Common.{ℕ, ◌+◌, ◌*◌, ◌≤◌, ◌≡◌, ◌∙◌, ◌==◌, sym, ap, refl, subst, ◌⊎◌, inl, inr, ⊎_elim, Bool, true, false, cond, not, ◌&&◌, ◌||◌, List, [], ◌∷◌, ◌++◌, length, set, get_or, length-append, arith, get_or-set_same, get_or-set_other}
+use Rattle.std.proofs.Math.Bool.{and-true, and-false, or-true, or-false}
 use Rattle.std.proofs.lemmas.Bool.{eqb-true}
 use Rattle.std.proofs.lemmas.Bool.Decides.{nat_tests}
 use Rattle.forec_tree.specs.Faults.{is_in, Leads, at_once, through}
@@ -15,27 +16,11 @@ pub record Followed (list : List ℕ) (before after : List Bool) (old new : List
   pub rest : (g : ℕ) → is_in g new ≡ (is_in g old || (get_or before g false && is_in g list))
   pub size : 2 * trues after + length new ≤ 2 * trues before + length old
 
-and_yes : (w : Bool) → w ≡ (w && true)
-and_yes true = refl
-and_yes false = refl
-
-or_no : (w : Bool) → w ≡ (w || false)
-or_no true = refl
-or_no false = refl
-
-and_no : (w : Bool) → (w && false) ≡ false
-and_no true = refl
-and_no false = refl
-
-or_yes : (w : Bool) → (w || true) ≡ true
-or_yes true = refl
-or_yes false = refl
-
 pub none_followed : (before : List Bool) (old : List ℕ) → Followed [] before before old old
 none_followed before old =
     record {
-      waiting = λ g. and_yes (get_or before g false);
-      rest = λ g. or_no (is_in g old) ∙ ap (λ b. is_in g old || b) (sym (and_no (get_or before g false)));
+      waiting = λ g. sym (and-true (get_or before g false));
+      rest = λ g. sym (or-false (is_in g old)) ∙ ap (λ b. is_in g old || b) (sym (and-false (get_or before g false)));
       size = omega arith;
     }
 
@@ -53,21 +38,21 @@ module _ (list : List ℕ) (before after : List Bool) (old new : List ℕ) (x : 
             (λ e.
             let q : x ≡ g = eqb-true x g e in
             ap (λ y. get_or (set after x false) y false) (sym q) ∙ get_or-set_same after x false false (in_marks after x w)
-            ∙ sym (ap (λ b. get_or before g false && not b) (is_in_snoc g x list ∙ ap (λ b. is_in g list || b) e ∙ or_yes (is_in g list)) ∙ and_no (get_or before g false)))
+            ∙ sym (ap (λ b. get_or before g false && not b) (is_in_snoc g x list ∙ ap (λ b. is_in g list || b) e ∙ or-true (is_in g list)) ∙ and-false (get_or before g false)))
             (λ e.
             get_or-set_other after x g false false (other_id x g e) ∙ f.waiting g
-            ∙ ap (λ b. get_or before g false && not b) (sym (is_in_snoc g x list ∙ ap (λ b. is_in g list || b) e ∙ sym (or_no (is_in g list)))));
+            ∙ ap (λ b. get_or before g false && not b) (sym (is_in_snoc g x list ∙ ap (λ b. is_in g list || b) e ∙ or-false (is_in g list))));
         rest = λ g.
             is_in_snoc g x new ∙
             split (x == g)
             (λ e.
             let q : x ≡ g = eqb-true x g e in
-            ap (λ b. is_in g new || b) e ∙ or_yes (is_in g new)
-            ∙ sym (ap (λ b. is_in g old || (get_or before g false && b)) (is_in_snoc g x list ∙ ap (λ b. is_in g list || b) e ∙ or_yes (is_in g list))
-            ∙ ap (λ b. is_in g old || (b && true)) (subst (λ y. get_or before y false ≡ true) q began) ∙ or_yes (is_in g old)))
+            ap (λ b. is_in g new || b) e ∙ or-true (is_in g new)
+            ∙ sym (ap (λ b. is_in g old || (get_or before g false && b)) (is_in_snoc g x list ∙ ap (λ b. is_in g list || b) e ∙ or-true (is_in g list))
+            ∙ ap (λ b. is_in g old || (b && true)) (subst (λ y. get_or before y false ≡ true) q began) ∙ or-true (is_in g old)))
             (λ e.
-            ap (λ b. is_in g new || b) e ∙ sym (or_no (is_in g new)) ∙ f.rest g
-            ∙ ap (λ b. is_in g old || (get_or before g false && b)) (sym (is_in_snoc g x list ∙ ap (λ b. is_in g list || b) e ∙ sym (or_no (is_in g list)))));
+            ap (λ b. is_in g new || b) e ∙ or-false (is_in g new) ∙ f.rest g
+            ∙ ap (λ b. is_in g old || (get_or before g false && b)) (sym (is_in_snoc g x list ∙ ap (λ b. is_in g list || b) e ∙ or-false (is_in g list))));
         size = omega (arith, clear, size, n);
       }
     where
@@ -84,8 +69,8 @@ module _ (list : List ℕ) (before after : List Bool) (old new : List ℕ) (x : 
             (λ e.
             let q : x ≡ g = eqb-true x g e in
             subst (λ y. get_or after y false ≡ false) q w
-            ∙ sym (ap (λ b. get_or before g false && not b) (is_in_snoc g x list ∙ ap (λ b. is_in g list || b) e ∙ or_yes (is_in g list)) ∙ and_no (get_or before g false)))
-            (λ e. f.waiting g ∙ ap (λ b. get_or before g false && not b) (sym (is_in_snoc g x list ∙ ap (λ b. is_in g list || b) e ∙ sym (or_no (is_in g list)))));
+            ∙ sym (ap (λ b. get_or before g false && not b) (is_in_snoc g x list ∙ ap (λ b. is_in g list || b) e ∙ or-true (is_in g list)) ∙ and-false (get_or before g false)))
+            (λ e. f.waiting g ∙ ap (λ b. get_or before g false && not b) (sym (is_in_snoc g x list ∙ ap (λ b. is_in g list || b) e ∙ or-false (is_in g list))));
         rest = λ g.
             f.rest g ∙
             split (x == g)
@@ -93,8 +78,8 @@ module _ (list : List ℕ) (before after : List Bool) (old new : List ℕ) (x : 
             let q : x ≡ g = eqb-true x g e in
             let gone : (get_or before g false && not (is_in g list)) ≡ false = sym (f.waiting g) ∙ subst (λ y. get_or after y false ≡ false) q w in
             ap (λ b. is_in g old || b) (same (get_or before g false) (is_in g list) gone)
-            ∙ ap (λ b. is_in g old || (get_or before g false && b)) (sym (is_in_snoc g x list ∙ ap (λ b. is_in g list || b) e ∙ or_yes (is_in g list))))
-            (λ e. ap (λ b. is_in g old || (get_or before g false && b)) (sym (is_in_snoc g x list ∙ ap (λ b. is_in g list || b) e ∙ sym (or_no (is_in g list)))));
+            ∙ ap (λ b. is_in g old || (get_or before g false && b)) (sym (is_in_snoc g x list ∙ ap (λ b. is_in g list || b) e ∙ or-true (is_in g list))))
+            (λ e. ap (λ b. is_in g old || (get_or before g false && b)) (sym (is_in_snoc g x list ∙ ap (λ b. is_in g list || b) e ∙ or-false (is_in g list))));
         size = f.size;
       }
     where
@@ -139,7 +124,7 @@ module _ (functions : List ℕ) (calls : ℕ → List ℕ) (f : ℕ) (call : Fun
   pub found_it : (waiting : List Bool) (rest : List ℕ) (g : ℕ) → Searching functions calls f waiting (rest ++ g ∷ []) → is_in f (calls g) ≡ true → Leads calls f f
   found_it waiting rest g s i =
       ⊎_elim (λ e. at_once (subst (λ y. is_in f (calls y) ≡ true) (sym e) i)) (λ l. append calls l (at_once i))
-      (s.sound g (is_in_snoc g g rest ∙ (let q : (g == g) ≡ true = grind (arith, nat_tests) in ap (λ b. is_in g rest || b) q) ∙ or_yes (is_in g rest)))
+      (s.sound g (is_in_snoc g g rest ∙ (let q : (g == g) ≡ true = grind (arith, nat_tests) in ap (λ b. is_in g rest || b) q) ∙ or-true (is_in g rest)))
 
   -- it was followed
   pub followed_on : (before after : List Bool) (old new : List ℕ) (g : ℕ) → Searching functions calls f before (old ++ g ∷ []) → Followed (calls g) before after old new →
@@ -151,9 +136,9 @@ module _ (functions : List ℕ) (calls : ℕ → List ℕ) (f : ℕ) (call : Fun
             (λ o.
             let c : is_in h (calls g) ≡ true = right_true (get_or before h false) (is_in h (calls g)) (sym (ap (λ b. b || (get_or before h false && is_in h (calls g))) o) ∙ sym (w.rest h) ∙ i) in
             inr (⊎_elim (λ e. at_once (subst (λ y. is_in h (calls y) ≡ true) (sym e) c)) (λ l. append calls l (at_once c))
-            (s.sound g (is_in_snoc g g old ∙ (let q : (g == g) ≡ true = grind (arith, nat_tests) in ap (λ b. is_in g old || b) q) ∙ or_yes (is_in g old)))));
+            (s.sound g (is_in_snoc g g old ∙ (let q : (g == g) ≡ true = grind (arith, nat_tests) in ap (λ b. is_in g old || b) q) ∙ or-true (is_in g old)))));
         closed = λ h v.
-            split (get_or before h false && is_in h (calls g)) (λ p. inl (w.rest h ∙ ap (λ b. is_in h old || b) p ∙ or_yes (is_in h old)))
+            split (get_or before h false && is_in h (calls g)) (λ p. inl (w.rest h ∙ ap (λ b. is_in h old || b) p ∙ or-true (is_in h old)))
             (λ p.
             let was : seen functions f before h ≡ true = earlier (f == h) (is_in h functions) (get_or before h false) (is_in h (calls g)) p (sym (ap (λ b. (f == h) || (is_in h functions && not b)) (w.waiting h)) ∙ v) in
             ⊎_elim
@@ -169,7 +154,7 @@ module _ (functions : List ℕ) (calls : ℕ → List ℕ) (f : ℕ) (call : Fun
       now : Passed functions calls f after g
       now k c = (
         split (f == k) (λ e. absurd (let q : true ≡ false = sym c ∙ sym (ap (λ y. is_in y (calls g)) (eqb-true f k e)) ∙ no_f in cc)) (λ e. e),
-        λ x. w.waiting k ∙ ap (λ b. get_or before k false && not b) c ∙ and_no (get_or before k false),
+        λ x. w.waiting k ∙ ap (λ b. get_or before k false && not b) c ∙ and-false (get_or before k false),
       )
 
       right_true : (a b : Bool) → (a && b) ≡ true → b ≡ true
@@ -192,7 +177,7 @@ module _ (functions : List ℕ) (calls : ℕ → List ℕ) (f : ℕ) (call : Fun
       ⊎_elim (λ i. let z : false ≡ true = i in cc)
       (λ p.
       let is : is_in m functions ≡ true = function m r in
-      never waiting s r q (ap (λ b. (f == m) || (b && not (get_or waiting m false))) is ∙ ap (λ b. (f == m) || not b) ((p m e).1 is) ∙ or_yes (f == m)))
+      never waiting s r q (ap (λ b. (f == m) || (b && not (get_or waiting m false))) is ∙ ap (λ b. (f == m) || not b) ((p m e).1 is) ∙ or-true (f == m)))
       (s.closed g v)
     where
       function : (m : ℕ) → Leads calls m h → is_in m functions ≡ true

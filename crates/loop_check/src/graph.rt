@@ -84,7 +84,8 @@ fn round(
     ensures waits { OnOk result (MarksUnordered functions.now (callees calls.now) marks.new.items order.new.items) }
     ensures moved { IfOk result (λ moved. moved ≡ true → trues marks.new.items < trues marks.old.items) }
     ensures marks { IfOk result (λ moved. moved ≡ false → marks.new.items ≡ marks.old.items) }
-    ensures held { IfOk result (λ moved. moved ≡ false → Held functions.now (callees calls.now) marks.new.items (length functions.now)) }
+    ensures held { IfOk result (λ moved. moved ≡ false → Held functions.now (callees calls.now) marks.new.items
+        (length functions.now)) }
 {
     let mut moved = false;
     for f in functions {
@@ -109,7 +110,8 @@ pub fn marked(alloc: Global, functions: &[u32]) -> Result<Vec<bool>, OutOfMemory
 
 /// Sets the mark of a number.
 pub fn mark(marks: &mut Vec<bool>, f: u32) -> Result<(), OutOfMemory>
-    ensures set { OnOk result ((g : ℕ) → slice_index_or marks.new.items g false ≡ plain.set_at f g (slice_index_or marks.old.items g false)) }
+    ensures set { OnOk result ((g : ℕ) → slice_index_or marks.new.items g false
+        ≡ plain.set_at f g (slice_index_or marks.old.items g false)) }
     ensures few { OnOk result (trues marks.new.items ≤ trues marks.old.items + 1) }
 {
     let at = f as usize;

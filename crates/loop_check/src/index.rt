@@ -36,7 +36,8 @@ fn blank() -> Entry
 /// Lengthens a table, so that it has an entry of this number.
 fn grow(entries: &mut Vec<Entry>, id: usize) -> Result<(), OutOfMemory>
     ensures long { OnOk result (id < length entries.new.items) }
-    ensures same { (k : ℕ) → slice_index_or entries.new.items k plain.blank_entry ≡ slice_index_or entries.old.items k plain.blank_entry }
+    ensures same { (k : ℕ) → slice_index_or entries.new.items k plain.blank_entry
+        ≡ slice_index_or entries.old.items k plain.blank_entry }
 {
     while entries.len() <= id {
         entries.push(blank())?;
@@ -115,7 +116,8 @@ impl<'p> Index<'p> {
 
     /// Where the first item of a name stands.
     pub fn position(&self, id: u32) -> Option<usize>
-        ensures { MatchOption result (find_item id (indexed_text self.now) ≡ None) (λ at. find_item id (indexed_text self.now) ≡ slice_get (indexed_text self.now) at) }
+        ensures { MatchOption result (find_item id (indexed_text self.now) ≡ None)
+            (λ at. find_item id (indexed_text self.now) ≡ slice_get (indexed_text self.now) at) }
     {
         let first = self.entry(id).first;
         if first == 0 {

@@ -61,7 +61,8 @@ fn falling(
     ranks: &[usize],
 ) -> Result<Vec<bool>, OutOfMemory>
     requires { NeverUp (callees calls.now) ranks.now }
-    ensures { IfOk result (λ marks. (g : ℕ) → slice_index_or marks.items g false ≡ true → Leads (callees calls.now) g g → ⊥) }
+    ensures { IfOk result (λ marks. (g : ℕ) → slice_index_or marks.items g false ≡ true → Leads (callees calls.now) g g
+        → ⊥) }
 {
     let mut marks = Vec::new(alloc);
     for f in functions {
@@ -80,7 +81,8 @@ pub fn acyclic(
     calls: &[Vec<u32>],
 ) -> Result<Vec<bool>, OutOfMemory>
     requires { FunctionsCall functions.now (callees calls.now) }
-    ensures { IfOk result (λ marks. (g : ℕ) → slice_index_or marks.items g false ≡ true → Leads (callees calls.now) g g → ⊥) }
+    ensures { IfOk result (λ marks. (g : ℕ) → slice_index_or marks.items g false ≡ true → Leads (callees calls.now) g g
+        → ⊥) }
 {
     let found = find_components(alloc, functions, calls)?;
     let ranks = found.ranks.as_slice();

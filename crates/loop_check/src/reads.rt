@@ -60,7 +60,8 @@ fn start_local(list: &[Local]) -> Option<Start>
 }
 
 fn start_declared(local: &Local) -> Option<Start>
-    ensures { start_pair result ≡ form.paired_term local.now.name.id (form.single_value local.now.length (plain.terms local.now.values)) }
+    ensures { start_pair result ≡ form.paired_term local.now.name.id
+        (form.single_value local.now.length (plain.terms local.now.values)) }
 {
     if local.length.is_some() {
         return None;
@@ -71,6 +72,7 @@ fn start_declared(local: &Local) -> Option<Start>
     }
 }
 
+/// A loop's start, where it has the form that turns can be counted from: a variable, and the value that it gets.
 pub fn start_of(start: &Option<Box<Stmt>>) -> Option<Start>
     ensures { start_pair result ≡ form.start_of (perhaps_of start.now) }
 {
@@ -94,6 +96,7 @@ fn start_statement(s: &Stmt) -> Option<Start>
     }
 }
 
+/// A loop's test, where it has the form that turns can be counted from: a variable compared with a number.
 pub fn test_of(test: &Option<Expr>) -> Option<Test>
     ensures { test_from result ≡ form.test_of (plain.optional_term test.now) }
 {
@@ -113,7 +116,8 @@ fn test_term(e: &Expr) -> Option<Test>
 }
 
 fn test_between(op: Binary, left: &Expr, right: &Expr) -> Option<Test>
-    ensures { test_from result ≡ form.test_with op (form.read_of (plain.term left.now)) (form.signed_number (plain.term right.now)) }
+    ensures { test_from result ≡ form.test_with op (form.read_of (plain.term left.now))
+        (form.signed_number (plain.term right.now)) }
 {
     match (read_of(left), signed_number(right)) {
         (Some(id), Some(number)) => Some(Test { id, op, number }),
@@ -139,6 +143,7 @@ fn number_of(e: &Expr) -> Option<i32>
     }
 }
 
+/// A loop's step, where it has the form that turns can be counted from: a variable, and by how much it changes.
 pub fn step_of(step: &Option<Box<Stmt>>) -> Option<LoopStep>
     ensures { step_from result ≡ form.step_of (perhaps_of step.now) }
 {

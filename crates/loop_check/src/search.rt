@@ -21,9 +21,12 @@ fn is_among(list: &[u32], f: u32) -> bool
 
 /// Puts those functions of a list that wait after the others that are to be looked at.
 fn follow(list: &[u32], waiting: &mut Vec<bool>, rest: &mut Vec<u32>) -> Result<(), OutOfMemory>
-    ensures waiting { OnOk result ((g : ℕ) → slice_index_or waiting.new.items g false ≡ (slice_index_or waiting.old.items g false && not (is_in g list.now))) }
-    ensures rest { OnOk result ((g : ℕ) → is_in g rest.new.items ≡ (is_in g rest.old.items || (slice_index_or waiting.old.items g false && is_in g list.now))) }
-    ensures size { OnOk result (2 * trues waiting.new.items + length rest.new.items ≤ 2 * trues waiting.old.items + length rest.old.items) }
+    ensures waiting { OnOk result ((g : ℕ) → slice_index_or waiting.new.items g false
+        ≡ (slice_index_or waiting.old.items g false && not (is_in g list.now))) }
+    ensures rest { OnOk result ((g : ℕ) → is_in g rest.new.items
+        ≡ (is_in g rest.old.items || (slice_index_or waiting.old.items g false && is_in g list.now))) }
+    ensures size { OnOk result (2 * trues waiting.new.items + length rest.new.items
+        ≤ 2 * trues waiting.old.items + length rest.old.items) }
 {
     for g in list {
         if is_waiting(waiting, *g) {

@@ -30,7 +30,8 @@ pub fn find_function<'p>(index: &Index<'p>, id: u32) -> Option<&'p Function>
 
 /// Puts a list at a number of a table of lists.
 fn put(alloc: Global, calls: &mut Vec<Vec<u32>>, id: u32, list: Vec<u32>) -> Result<(), OutOfMemory>
-    ensures { OnOk result ((g : ℕ) → callees calls.new.items g ≡ put_entry id g list.items (callees calls.old.items g)) }
+    ensures { OnOk result ((g : ℕ) → callees calls.new.items g
+        ≡ put_entry id g list.items (callees calls.old.items g)) }
 {
     let at = id as usize;
     'room: while calls.len() <= at {
@@ -93,8 +94,10 @@ fn add_started(
     calls: &mut Calls,
 ) -> Result<(), OutOfMemory>
     requires { slice_get (indexed_text index.now) at ≡ Some (plain.plain_item item.now) }
-    ensures { OnOk result (Read started_in (take at (indexed_text index.now)) calls.old.functions.items (callees calls.old.lists.items)
-        → Read started_in (take (at + 1) (indexed_text index.now)) calls.new.functions.items (callees calls.new.lists.items)) }
+    ensures { OnOk result (Read started_in (take at (indexed_text index.now)) calls.old.functions.items
+        (callees calls.old.lists.items)
+        → Read started_in (take (at + 1) (indexed_text index.now)) calls.new.functions.items
+        (callees calls.new.lists.items)) }
 {
     let list = started_list(alloc, item)?;
     add_function(alloc, index, at, item, list, calls)?;
@@ -103,7 +106,8 @@ fn add_started(
 
 /// The functions of a program, and those that the statements of each one call or start.
 pub fn read_calls(alloc: Global, index: &Index<'_>) -> Result<Calls, OutOfMemory>
-    ensures { IfOk result (λ calls. Read started_in (indexed_text index.now) calls.functions.items (callees calls.lists.items)) }
+    ensures { IfOk result (λ calls. Read started_in (indexed_text index.now) calls.functions.items
+        (callees calls.lists.items)) }
 {
     let mut calls = Calls {
         functions: Vec::new(alloc),
@@ -131,7 +135,8 @@ fn function_certain(index: &Index<'_>, called: &[bool], id: u32) -> bool
 
 /// Which functions are certain to pause.
 fn judged(alloc: Global, index: &Index<'_>, order: &[u32]) -> Result<Vec<bool>, OutOfMemory>
-    ensures { IfOk result (λ called. IsRightTable (pauses.certain_step (indexed_text index.now)) order.now (length order.now) (known called.items)) }
+    ensures { IfOk result (λ called. IsRightTable (pauses.certain_step (indexed_text index.now)) order.now
+        (length order.now) (known called.items)) }
 {
     let mut called = Vec::new(alloc);
     for f in order {

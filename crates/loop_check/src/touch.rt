@@ -6,6 +6,7 @@ ghost use Rattle.forec_tree.specs.Turns as form;
 
 use forec_tree::{Branch, Local, Stmt, StmtKind};
 
+/// Whether a statement declares or assigns a name, given by its number, or has a statement in it that does.
 #[cycle(touch)]
 pub fn touches(id: u32, s: &Stmt) -> bool
     ensures { result ≡ form.touches id (plain.statement s.now) }

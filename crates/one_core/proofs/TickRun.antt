@@ -26,7 +26,7 @@ use Rattle.tick_jobs.proofs.Readiness.{between_of, begins_by, replied_of}
 use Rattle.one_core.specs.Seats.{Seated, seated_code, HoldsThread, HasAllSeats}
 use Rattle.one_core.specs.Resting.{AllRestAfter, RootHasRepliedTo}
 use Rattle.one_core.specs.Told.{HasDoneByBook, HasTalked, HaveTalked}
-use Rattle.one_core.specs.Single.{Single, single, seated_in, code_of, IsSingle, HasRootJobs, single_ticking}
+use Rattle.one_core.specs.Single.{Single, single, seated_in, single_code, IsSingle, HasRootJobs, single_ticking}
 
 -- ---- before
 
@@ -99,11 +99,11 @@ talked : (c : PlainCode) (t : ℕ) (h : Thread) (book : Book) (jobs : List Job) 
 talked c t h book jobs number d =
     subst (λ n. HasTalked c n book jobs) number (record { exchanges = d.exchanges; outputs = d.outputs; jobs_are = d.jobs_are; runs = d.runs; complete = d.complete; told = d.posts })
 
-pub all_talked : (o : Single) → IsSingle o → (jobs : List Job) → HasRootJobs o jobs → HaveTalked (code_of o) jobs
+pub all_talked : (o : Single) → IsSingle o → (jobs : List Job) → HasRootJobs o jobs → HaveTalked (single_code o) jobs
 all_talked o inv jobs had =
     let w = had.worked in
     record {
       book = w.book;
-      root = talked (code_of o) 0 w.thread w.book jobs w.sits.number w.done;
-      each = λ t lt less. let count = inv.fitted.seats in let r = w.above t lt (omega (arith, less, count)) in talked (code_of o) t r.thread w.book (w.book t) r.sits.number r.done;
+      root = talked (single_code o) 0 w.thread w.book jobs w.sits.number w.done;
+      each = λ t lt less. let count = inv.fitted.seats in let r = w.above t lt (omega (arith, less, count)) in talked (single_code o) t r.thread w.book (w.book t) r.sits.number r.done;
     }

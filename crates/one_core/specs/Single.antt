@@ -30,30 +30,30 @@ abbrev pub seated_in : Single → Seated
 seated_in o = record { code = o.code; threads = o.threads }
 
 -- the code whose threads they are
-abbrev pub code_of : Single → PlainCode
-code_of o = plain_code o.code
+abbrev pub single_code : Single → PlainCode
+single_code o = plain_code o.code
 
 -- each tick so far has paused
-abbrev pub is_live : Single → Bool
-is_live o = o.live
+abbrev pub single_is_live : Single → Bool
+single_is_live o = o.live
 
 -- what holds between ticks: each thread rests, and thread 0 can be given the job of the next tick where there is one
 pub record IsSingle (o : Single) : Type 0 where
   pub fitted : HasAllSeats (seated_in o)
   pub worked : (jobs : List Job) × AllRestAfter (seated_in o) jobs
-  pub room : HasRoom (of_shape (code_of o).shape) 0 (plain_packet o.root)
+  pub room : HasRoom (of_shape (single_code o).shape) 0 (plain_packet o.root)
   pub ready : o.live ≡ true → (t : Thread) → HoldsThread (seated_in o) 0 t → IsReady t o.root.kind
 
 -- ---- what was run
 
 -- thread 0 was given these jobs by the ticks so far, and has replied to each
 pub record HasRootJobs (o : Single) (jobs : List Job) : Type 0 where
-  pub fit : EachFits (code_of o).shape 0 jobs
+  pub fit : EachFits (single_code o).shape 0 jobs
   pub worked : AllRestAfter (seated_in o) jobs
 
 -- as what runs ticks
 abbrev pub single_ticking : Single → Ticking
-single_ticking o = record { code = code_of o; root = o.root; live = o.live; HasJobs = λ jobs. HasRootJobs o jobs }
+single_ticking o = record { code = single_code o; root = o.root; live = o.live; HasJobs = λ jobs. HasRootJobs o jobs }
 
 -- these ticks were run, each with its row and its budget, as each kernel for which the code stands runs them
 abbrev pub OneCoreHasRun : Single → List TickInput → Type 0

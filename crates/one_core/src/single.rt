@@ -39,7 +39,7 @@ impl<'c> Model for OneCore<'c> {
 }
 
 impl<'c> OneCore<'c> {
-    ghost use Rattle.one_core.specs.Single.{code_of, single_ticking, HasRootJobs};
+    ghost use Rattle.one_core.specs.Single.{single_code, single_ticking, HasRootJobs};
     ghost use Rattle.one_core.specs.Told.{HaveTalked};
 
     /// All threads of a code on one core, the one that the placement has for each of them. No tick was run.
@@ -54,7 +54,7 @@ impl<'c> OneCore<'c> {
     ) -> Result<OneCore<'c>, OutOfMemory>
         requires placed { length placement.now.places ≡ length (plain_code code.now).threads }
         requires one { is_on_one_core placement.now.places ≡ true }
-        ensures code { IfOk result (λ o. code_of o ≡ plain_code code.now) }
+        ensures code { IfOk result (λ o. single_code o ≡ plain_code code.now) }
         ensures none { IfOk result (λ o. RanNone (single_ticking o)) }
     {
         let variables = code.shape().variables.len();
@@ -99,7 +99,7 @@ impl<'c> OneCore<'c> {
     /// A law: thread 0 does by itself the jobs of the ticks so far, and each other thread those that it was told, where their
     /// branches are told exactly the jobs that they give, and give these replies.
     pub fn talks(&self)
-        ensures { (jobs : List Job) → HasRootJobs self.now jobs → HaveTalked (code_of self.now) jobs }
+        ensures { (jobs : List Job) → HasRootJobs self.now jobs → HaveTalked (single_code self.now) jobs }
     {
         let _ = &self.calls;
     }

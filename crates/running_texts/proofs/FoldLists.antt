@@ -1,6 +1,6 @@
 -- Folds as far as they have come.
-use Rattle.std.proofs.Common.{◌≡◌, ◌∙◌, ℕ, zero, suc, ◌+◌, ◌≤◌, ◌<◌, ◌⊎◌, inl, inr, ◌||◌, min, ℤ, pos, Option, None, unwrap_or, Ok, Err, List, [], ◌∷◌, ◌++◌, append_assoc, length, take, drop, get_or, refl, ap, sym, arith, Vec, Global}
-use Rattle.std.proofs.lemmas.List.{take_more}
+use Rattle.std.proofs.Common.{◌≡◌, ◌∙◌, ℕ, zero, suc, ◌+◌, ◌≤◌, ◌<◌, ◌⊎◌, inl, inr, ◌||◌, min, ℤ, pos, Option, None, unwrap_or, Ok, Err, List, [], ◌∷◌, ◌++◌, append_assoc, length, take, drop, get_or, refl, ap, sym, arith, Vec, Global, append-nil}
+use Rattle.std.proofs.lemmas.List.{take_more, drop_more, drop_all, length-take-le}
 use Rattle.forec_kernel.specs.declared.shape.VarCopy.{VarCopy}
 use Rattle.forec_kernel.specs.Shapes.{PlainKernel}
 use Rattle.forec_kernel.specs.Texts.{Threads}
@@ -10,7 +10,6 @@ use Rattle.running_texts.specs.declared.meter.Halt.{Halt}
 use Rattle.running_texts.specs.declared.meter.Halt.TheVariants.{Trapped, Over, OutOfMemory}
 use Rattle.running_texts.specs.Metered.{IsMetered}
 use Rattle.running_texts.specs.Folding.{Added, Comes, Stays, Folds, Come, Stop, one_more_fold, fold_then, branch_added, branch_folds, first_folds, folded_copies, adding, folding, added_units, folds_units}
-use Rattle.running_texts.proofs.Rows.{drop_at}
 
 abbrev pub blank : Fold
 blank = record { variable = 0; base = pos 0; total = None }
@@ -75,14 +74,10 @@ folds_end old now v whole rest s e =
     record {
       by = record {
         units = s.units;
-        is = s.is ∙ ap (after_folds v.items s.units) e ∙ ap (λ l. Come l (s.units + 0)) (append_nil v.items) ∙ ap (Come v.items) (omega arith);
+        is = s.is ∙ ap (after_folds v.items s.units) e ∙ ap (λ l. Come l (s.units + 0)) (append-nil v.items) ∙ ap (Come v.items) (omega arith);
         left = s.left;
       };
     }
-  where
-    append_nil : (l : List Fold) → l ++ [] ≡ l
-    append_nil [] = refl
-    append_nil (x ∷ xs) = ap (λ l. x ∷ l) (append_nil xs)
 
 pub folds_same : (old now : ℕ) (ns : List Fold) (whole a b : Folds) → FoldsSoFar old now ns whole a → a ≡ b → FoldsSoFar old now ns whole b
 folds_same old now ns whole a b s e = record { units = s.units; is = s.is ∙ ap (after_folds ns s.units) e; left = s.left }
@@ -90,7 +85,7 @@ folds_same old now ns whole a b s e = record { units = s.units; is = s.is ∙ ap
 pub folds_next : (k : PlainKernel) (uses : List ℕ) (copies : List VarCopy) (es : List Fold) (i : ℕ) (d : Fold) → i < length es →
     branch_folds k uses copies (drop i es)
     ≡ fold_then (get_or es i d) (branch_added k uses copies (get_or es i d)) (branch_folds k uses copies (drop (i + 1) es))
-folds_next k uses copies es i d h = ap (branch_folds k uses copies) (drop_at es i d h)
+folds_next k uses copies es i d h = ap (branch_folds k uses copies) (drop_more es i d h)
 
 -- ---- the first folds, and the copies at the end
 
@@ -101,17 +96,12 @@ first-push [] (d ∷ cs) u c e = absurd (omega arith)
 first-push (v ∷ us) [] u c e = absurd (omega arith)
 first-push (v ∷ us) (d ∷ cs) u c e = ap (λ l. record { variable = v; base = d.value; total = None } ∷ l) (first-push us cs u c (omega arith))
 
-take_length : {A : Type 0} (xs : List A) (i : ℕ) → i ≤ length xs → length (take i xs) ≡ i
-take_length xs zero h = refl
-take_length [] (suc i) h = absurd (omega arith)
-take_length (x ∷ xs) (suc i) h = ap suc (take_length xs i (omega arith))
-
 pub first_more : (us : List ℕ) (cs : List VarCopy) (i d : ℕ) (e : VarCopy) (made : List Fold) → i < length us → i < length cs →
     made ≡ first_folds (take i us) (take i cs) →
     made ++ record { variable = get_or us i d; base = (get_or cs i e).value; total = None } ∷ [] ≡ first_folds (take (i + 1) us) (take (i + 1) cs)
 first_more us cs i d e made p q same =
     ap (λ l. l ++ record { variable = get_or us i d; base = (get_or cs i e).value; total = None } ∷ []) same
-    ∙ sym (first-push (take i us) (take i cs) (get_or us i d) (get_or cs i e) (take_length us i (omega arith) ∙ sym (take_length cs i (omega arith))))
+    ∙ sym (first-push (take i us) (take i cs) (get_or us i d) (get_or cs i e) (length-take-le i us (omega arith) ∙ sym (length-take-le i cs (omega arith))))
     ∙ ap (λ l. first_folds l (take i cs ++ get_or cs i e ∷ [])) (sym (take_more us i d p))
     ∙ ap (first_folds (take (i + 1) us)) (sym (take_more cs i e q))
 
@@ -136,9 +126,9 @@ module _ (k : PlainKernel) (cs : Threads) where
   folded_next us copies es i u c e made whole p q r h =
       let x : VarCopy = record { value = unwrap_or (get_or es i e).total (get_or copies i c).value; modified = (get_or copies i c).modified || some_marked (shares k (get_or us i u) 0 cs) } in
       sym (append_one made x (folded_copies k cs (drop (i + 1) us) (drop (i + 1) copies) (drop (i + 1) es)))
-      ∙ sym (ap (λ l. made ++ folded_copies k cs l (drop i copies) (drop i es)) (drop_at us i u p)
-      ∙ ap (λ l. made ++ folded_copies k cs (get_or us i u ∷ drop (i + 1) us) l (drop i es)) (drop_at copies i c q)
-      ∙ ap (λ l. made ++ folded_copies k cs (get_or us i u ∷ drop (i + 1) us) (get_or copies i c ∷ drop (i + 1) copies) l) (drop_at es i e r)) ∙ h
+      ∙ sym (ap (λ l. made ++ folded_copies k cs l (drop i copies) (drop i es)) (drop_more us i u p)
+      ∙ ap (λ l. made ++ folded_copies k cs (get_or us i u ∷ drop (i + 1) us) l (drop i es)) (drop_more copies i c q)
+      ∙ ap (λ l. made ++ folded_copies k cs (get_or us i u ∷ drop (i + 1) us) (get_or copies i c ∷ drop (i + 1) copies) l) (drop_more es i e r)) ∙ h
 
   folded_out : (us : List ℕ) (copies : List VarCopy) (es : List Fold) (i : ℕ) → min (length us) (length es) ≤ i →
       folded_copies k cs (drop i us) (drop i copies) (drop i es) ≡ drop i copies
@@ -169,24 +159,14 @@ module _ (k : PlainKernel) (cs : Threads) where
       (made ++ get_or copies i c ∷ []) ++ folded_copies k cs (drop (i + 1) us) (drop (i + 1) copies) (drop (i + 1) es) ≡ whole
   folded_keep us copies es i c made whole p q h =
       ap (λ l. (made ++ get_or copies i c ∷ []) ++ l) (folded_out us copies es (i + 1) (omega arith))
-      ∙ sym (append_one made (get_or copies i c) (drop (i + 1) copies)) ∙ ap (λ l. made ++ l) (sym (drop_at copies i c q))
+      ∙ sym (append_one made (get_or copies i c) (drop (i + 1) copies)) ∙ ap (λ l. made ++ l) (sym (drop_more copies i c q))
       ∙ ap (λ l. made ++ l) (sym (folded_out us copies es i p)) ∙ h
 
   pub folded_end : (us : List ℕ) (copies : List VarCopy) (es : List Fold) (i : ℕ) (made whole : List VarCopy) → length copies ≤ i →
       made ++ folded_copies k cs (drop i us) (drop i copies) (drop i es) ≡ whole → made ≡ whole
   folded_end us copies es i made whole p h =
-      sym (append_nil made) ∙ ap (λ l. made ++ l) (sym (nothing (drop i us) (drop i es) ∙ refl)) ∙ ap (λ l. made ++ folded_copies k cs (drop i us) l (drop i es)) (sym (drop_all copies i p)) ∙ h
+      sym (append-nil made) ∙ ap (λ l. made ++ l) (sym (nothing (drop i us) (drop i es) ∙ refl)) ∙ ap (λ l. made ++ folded_copies k cs (drop i us) l (drop i es)) (sym (drop_all i copies p)) ∙ h
     where
-      append_nil : (xs : List VarCopy) → xs ++ [] ≡ xs
-      append_nil [] = refl
-      append_nil (x ∷ xs) = ap (λ l. x ∷ l) (append_nil xs)
-
-      drop_all : (xs : List VarCopy) (i : ℕ) → length xs ≤ i → drop i xs ≡ []
-      drop_all [] zero h = refl
-      drop_all [] (suc i) h = refl
-      drop_all (x ∷ xs) zero h = absurd (omega arith)
-      drop_all (x ∷ xs) (suc i) h = drop_all xs i (omega arith)
-
       nothing : (us : List ℕ) (es : List Fold) → folded_copies k cs us [] es ≡ []
       nothing [] es = refl
       nothing (u ∷ us) es = refl

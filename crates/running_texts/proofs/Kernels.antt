@@ -1,6 +1,6 @@
 -- What a kernel says of a thread, and copies handed down.
-use Rattle.std.proofs.Common.{◌≡◌, ◌∙◌, ℕ, zero, suc, ◌+◌, ◌≤◌, ◌<◌, min, false, ℤ, List, [], ◌∷◌, ◌++◌, length, take, drop, get_or, map, refl, ap, sym, add-one, arith, Vec, Global}
-use Rattle.std.proofs.lemmas.List.{take_more}
+use Rattle.std.proofs.Common.{◌≡◌, ◌∙◌, ℕ, zero, suc, ◌+◌, ◌≤◌, ◌<◌, min, false, ℤ, List, [], ◌∷◌, ◌++◌, length, take, drop, get_or, map, refl, ap, sym, arith, Vec, Global}
+use Rattle.std.proofs.lemmas.List.{take_more, drop_more}
 use Rattle.forec_kernel.specs.Terms.{Nop}
 use Rattle.forec_kernel.specs.Plain.{stmt, branch}
 use Rattle.forec_kernel.specs.Shapes.{plain_thread}
@@ -81,9 +81,4 @@ started_none o cs (b ∷ bs) (a ∷ as') zero e = absurd (omega arith)
 started_none o cs (b ∷ bs) (a ∷ as') (suc i) e = started_none o cs bs as' i (omega arith)
 
 pub drop_next : {A : Type 0} (xs : List A) (i : ℕ) (x : A) → i < length xs → x ≡ get_or xs i x → drop i xs ≡ x ∷ drop (i + 1) xs
-drop_next xs i x h read = rw add-one (at xs i x h ∙ ap (λ y. y ∷ drop (suc i) xs) (sym read))
-  where
-    at : {A : Type 0} (xs : List A) (i : ℕ) (d : A) → i < length xs → drop i xs ≡ get_or xs i d ∷ drop (suc i) xs
-    at [] i d h = absurd (omega arith)
-    at (x ∷ xs) zero d h = refl
-    at (x ∷ xs) (suc i) d h = at xs i d (omega arith)
+drop_next xs i x h read = drop_more xs i x h ∙ ap (λ y. y ∷ drop (i + 1) xs) (sym read)

@@ -1,5 +1,5 @@
 -- Loops over a list of terms, and over the turns of a loop, as far as they have come.
-use Rattle.std.proofs.Common.{◌≡◌, ◌≢◌, ◌∙◌, Bool, true, false, ℕ, zero, suc, ◌+◌, ◌-◌, ◌≤◌, ◌<◌, ℤ, pos, Result, Ok, Err, List, [], ◌∷◌, ◌++◌, append_assoc, length, drop, get_or, refl, ap, sym, subst, add-one, arith, Vec, Global}
+use Rattle.std.proofs.Common.{◌≡◌, ◌≢◌, ◌∙◌, Bool, true, false, ℕ, zero, suc, ◌+◌, ◌-◌, ◌≤◌, ◌<◌, ℤ, pos, Result, Ok, Err, List, [], ◌∷◌, ◌++◌, append_assoc, length, drop, get_or, refl, ap, sym, subst, add-one, arith, Vec, Global, append-nil}
 use Rattle.forec_base.specs.declared.Place.{Place}
 use Rattle.forec_kernel.specs.Terms.{more_exprs, more_stmts}
 use Rattle.forec_kernel.specs.Plain.{expr, exprs, stmt, stmts}
@@ -104,14 +104,10 @@ numbers_end old now v whole rest s e =
     record {
       by = record {
         units = s.units;
-        is = s.is ∙ ap (after_numbers v.items s.units) e ∙ ap (λ l. AllGive l (s.units + 0)) (append_nil v.items) ∙ ap (AllGive v.items) (omega arith);
+        is = s.is ∙ ap (after_numbers v.items s.units) e ∙ ap (λ l. AllGive l (s.units + 0)) (append-nil v.items) ∙ ap (AllGive v.items) (omega arith);
         left = s.left;
       };
     }
-  where
-    append_nil : (l : List ℤ) → l ++ [] ≡ l
-    append_nil [] = refl
-    append_nil (x ∷ xs) = ap (λ l. x ∷ l) (append_nil xs)
 
 pub numbers_same : (old now : ℕ) (ns : List ℤ) (whole a b : Values) → NumbersSoFar old now ns whole a → a ≡ b → NumbersSoFar old now ns whole b
 numbers_same old now ns whole a b s e = record { units = s.units; is = s.is ∙ ap (after_numbers ns s.units) e; left = s.left }

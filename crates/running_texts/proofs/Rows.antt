@@ -1,6 +1,6 @@
 -- Copies at the start of a tick, and outputs at its end.
-use Rattle.std.proofs.Common.{◌≡◌, ◌∙◌, ℕ, zero, suc, ◌+◌, ◌≤◌, ◌<◌, min, false, ℤ, List, [], ◌∷◌, ◌++◌, length, take, drop, get_or, slice_set, refl, ap, sym, add-one, arith}
-use Rattle.std.proofs.lemmas.List.{take_more}
+use Rattle.std.proofs.Common.{◌≡◌, ◌∙◌, ℕ, zero, suc, ◌+◌, ◌≤◌, ◌<◌, min, false, ℤ, List, [], ◌∷◌, ◌++◌, length, take, drop, get_or, slice_set, refl, ap, sym, arith, append-nil}
+use Rattle.std.proofs.lemmas.List.{take_more, take_all, drop_more, drop_all}
 use Rattle.forec_kernel.specs.declared.shape.VarCopy.{VarCopy}
 use Rattle.forec_kernel.specs.declared.shape.Variable.{Variable}
 use Rattle.forec_kernel.specs.Values.{copy_of}
@@ -17,20 +17,12 @@ start_more vs i d made h e =
     ap (λ l. l ++ record { value = (get_or vs i d).start; modified = false } ∷ []) e ∙ sym (start-push (take i vs) (get_or vs i d))
     ∙ ap start_copies (sym (take_more vs i d h))
 
-pub drop_at : {A : Type 0} (xs : List A) (i : ℕ) (d : A) → i < length xs → drop i xs ≡ get_or xs i d ∷ drop (i + 1) xs
-drop_at xs i d h = rw add-one (at xs i d h)
-  where
-    at : {A : Type 0} (xs : List A) (i : ℕ) (d : A) → i < length xs → drop i xs ≡ get_or xs i d ∷ drop (suc i) xs
-    at [] i d h = absurd (omega arith)
-    at (x ∷ xs) zero d h = refl
-    at (x ∷ xs) (suc i) d h = at xs i d (omega arith)
-
 pub row_next : (uses inputs : List ℕ) (row : List ℤ) (i d : ℕ) (z : ℤ) (copies : List VarCopy) → i < length inputs → i < length row →
     with_row uses (drop (i + 1) inputs) (drop (i + 1) row) (put_copy uses copies (get_or inputs i d) (record { value = get_or row i z; modified = false }))
     ≡ with_row uses (drop i inputs) (drop i row) copies
 row_next uses inputs row i d z copies p q =
-    sym (ap (λ l. with_row uses l (drop i row) copies) (drop_at inputs i d p)
-    ∙ ap (λ l. with_row uses (get_or inputs i d ∷ drop (i + 1) inputs) l copies) (drop_at row i z q))
+    sym (ap (λ l. with_row uses l (drop i row) copies) (drop_more inputs i d p)
+    ∙ ap (λ l. with_row uses (get_or inputs i d ∷ drop (i + 1) inputs) l copies) (drop_more row i z q))
 
 pub row_ends : (uses inputs : List ℕ) (row : List ℤ) (i : ℕ) (copies : List VarCopy) → min (length inputs) (length row) ≤ i →
     with_row uses (drop i inputs) (drop i row) copies ≡ copies
@@ -72,27 +64,11 @@ outputs_next uses copies vs start now i d p q e =
     let front = values_of uses copies (take i vs) in
     let y = (copy_of uses copies (get_or vs i d)).value in
     let x = get_or start i y in
-    ap (λ l. slice_set l i y) (e ∙ ap (λ l. front ++ l) (drop_at start i y q))
+    ap (λ l. slice_set l i y) (e ∙ ap (λ l. front ++ l) (drop_more start i y q))
     ∙ set_behind front x y (drop (i + 1) start) i (values_length uses copies vs i (omega arith))
     ∙ append_more front y (drop (i + 1) start)
     ∙ ap (λ l. l ++ drop (i + 1) start) (sym (values-push uses copies (take i vs) (get_or vs i d)) ∙ ap (values_of uses copies) (sym (take_more vs i d p)))
 
 pub outputs_end : (uses : List ℕ) (copies : List VarCopy) (vs : List ℕ) (start now : List ℤ) (i : ℕ) → length vs ≤ i → length start ≡ length vs →
     now ≡ values_of uses copies (take i vs) ++ drop i start → now ≡ values_of uses copies vs
-outputs_end uses copies vs start now i h l e = e ∙ ap (λ z. values_of uses copies z ++ drop i start) (take_all vs i h) ∙ ap (λ z. values_of uses copies vs ++ z) (drop_all start i (omega arith)) ∙ append_nil (values_of uses copies vs)
-  where
-    take_all : (xs : List ℕ) (i : ℕ) → length xs ≤ i → take i xs ≡ xs
-    take_all [] zero h = refl
-    take_all [] (suc i) h = refl
-    take_all (x ∷ xs) zero h = absurd (omega arith)
-    take_all (x ∷ xs) (suc i) h = ap (λ l. x ∷ l) (take_all xs i (omega arith))
-
-    drop_all : (xs : List ℤ) (i : ℕ) → length xs ≤ i → drop i xs ≡ []
-    drop_all [] zero h = refl
-    drop_all [] (suc i) h = refl
-    drop_all (x ∷ xs) zero h = absurd (omega arith)
-    drop_all (x ∷ xs) (suc i) h = drop_all xs i (omega arith)
-
-    append_nil : (xs : List ℤ) → xs ++ [] ≡ xs
-    append_nil [] = refl
-    append_nil (x ∷ xs) = ap (λ l. x ∷ l) (append_nil xs)
+outputs_end uses copies vs start now i h l e = e ∙ ap (λ z. values_of uses copies z ++ drop i start) (take_all i vs h) ∙ ap (λ z. values_of uses copies vs ++ z) (drop_all i start (omega arith)) ∙ append-nil (values_of uses copies vs)

@@ -8,6 +8,7 @@ use Rattle.forec_kernel.specs.Shapes.{PlainKernel, plain_kernel}
 use Rattle.forec_kernel.specs.declared.shape.KernelParts.{KernelParts}
 use Rattle.forec_kernel.specs.declared.terms.Statement.{Statement}
 use Rattle.forec_kernel.specs.Values.{function_words, fresh_words, call_within, flow, flow_value}
+use Rattle.forec_kernel.proofs.WeightLemmas.{body_at}
 use Rattle.running_texts.specs.declared.meter.Halt.{Halt}
 use Rattle.running_texts.specs.Metered.{IsMetered, value_kind, setting_within}
 
@@ -28,12 +29,7 @@ zeros_more args words n e =
     ∙ ap (λ z. args ++ z) (replicate-append-replicate n 1 (pos 0))
 
 get_or_map : (xs : List Statement) (i : ℕ) (x : Statement) → i < length xs → x ≡ get_or xs i x → get_or (map stmt xs) i Nop ≡ stmt x
-get_or_map xs i x h read = at xs i x h ∙ ap stmt (sym read)
-  where
-    at : (xs : List Statement) (i : ℕ) (d : Statement) → i < length xs → get_or (map stmt xs) i Nop ≡ stmt (get_or xs i d)
-    at [] i d h = absurd (omega arith)
-    at (y ∷ ys) zero d h = refl
-    at (y ∷ ys) (suc i) d h = at ys i d (omega arith)
+get_or_map xs i x h read = body_at xs i x h ∙ ap stmt (sym read)
 
 pub body_of_call : (k : KernelParts) (f : ℕ) (x : Statement) → f < length k.functions.items → x ≡ get_or k.functions.items f x →
     get_or (plain_kernel k).functions f Nop ≡ stmt x

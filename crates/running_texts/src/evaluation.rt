@@ -270,7 +270,8 @@ fn run(
     s: &Statement,
     left: &mut u64,
 ) -> Result<Ran, Halt>
-    ensures { IsMetered flowing left.old left.new result (flow (setting_within (plain_kernel kernel.now) deep) (stmt s.now) words.items) }
+    ensures { IsMetered flowing left.old left.new result (flow (setting_within (plain_kernel kernel.now) deep)
+        (stmt s.now) words.items) }
 {
     match s {
         Statement::Set { to, value } => {
@@ -344,7 +345,8 @@ fn run_all(
     list: &[Statement],
     left: &mut u64,
 ) -> Result<Ran, Halt>
-    ensures { IsMetered flowing left.old left.new result (flows (setting_within (plain_kernel kernel.now) deep) (stmts list.now) words.items) }
+    ensures { IsMetered flowing left.old left.new result (flows (setting_within (plain_kernel kernel.now) deep)
+        (stmts list.now) words.items) }
 {
     for s in list {
         match run(alloc, kernel, deep, words, s, left) {
@@ -366,7 +368,8 @@ fn run_turns(
     bounded: &BoundedLoop<'_>,
     left: &mut u64,
 ) -> Result<Ran, Halt>
-    ensures { IsMetered flowing left.old left.new result (bounded_flow (plain_kernel kernel.now) deep bounded.now words.items) }
+    ensures { IsMetered flowing left.old left.new result (bounded_flow (plain_kernel kernel.now) deep bounded.now
+        words.items) }
 {
     let mut turns_left = bounded.bound;
     'turns: loop {

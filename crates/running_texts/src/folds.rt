@@ -87,7 +87,8 @@ fn add_value(
     value: i32,
     left: &mut u64,
 ) -> Result<Option<i32>, Halt>
-    ensures { IsMetered adding left.old left.new result (added (combine_of (plain_kernel kernel.now) combine) total value) }
+    ensures { IsMetered adding left.old left.new result (added (combine_of (plain_kernel kernel.now) combine) total
+        value) }
 {
     match total {
         None => Ok(Some(value)),
@@ -146,7 +147,8 @@ pub fn fold_branch(
     folds: &[Fold],
     left: &mut u64,
 ) -> Result<Vec<Fold>, Halt>
-    ensures { IsMetered folding left.old left.new result (branch_folds (plain_kernel kernel.now) uses.now copies.now folds.now) }
+    ensures { IsMetered folding left.old left.new result (branch_folds (plain_kernel kernel.now) uses.now copies.now
+        folds.now) }
 {
     let branch = Lookup::new(uses, copies);
     let mut next = Vec::new(alloc);

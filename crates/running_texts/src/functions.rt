@@ -144,7 +144,8 @@ pub(crate) fn as_return(part: Result<i32, Halt>) -> Result<Ran, Halt>
 
 /// What a body gives: it always returns.
 pub(crate) fn as_value(part: Result<Ran, Halt>) -> Result<i32, Halt>
-    ensures { (old new : ℕ) (f : Flow) → IsMetered flowing old new part f → IsMetered value_kind old new result (flow_value f) }
+    ensures { (old new : ℕ) (f : Flow) → IsMetered flowing old new part f
+        → IsMetered value_kind old new result (flow_value f) }
 {
     match part {
         Ok(Ran::Continues(_)) => Ok(0),

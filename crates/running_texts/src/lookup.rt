@@ -93,7 +93,8 @@ impl<'a> Lookup<'a> {
     /// The copy of a variable, none where the thread doesn't use it.
     pub fn find(&self, variable: u32) -> Option<VarCopy>
         requires { IsLookup self.now }
-        ensures { result ≡ cond (contains variable self.now.uses.now) (Some (copy_of self.now.uses.now self.now.copies.now variable)) None }
+        ensures { result ≡ cond (contains variable self.now.uses.now)
+            (Some (copy_of self.now.uses.now self.now.copies.now variable)) None }
     {
         if self.ascending {
             search(self.uses, self.copies, variable)

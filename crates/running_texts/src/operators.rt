@@ -118,7 +118,8 @@ pub(crate) fn after_word_index(
     part: Result<i32, Halt>,
     left: &mut u64,
 ) -> Result<i32, Halt>
-    ensures { IsNumberAfter part left.old left.new result (λ k. at_index (index_in length k) (λ j. word words.now (slot + j)) place) }
+    ensures { IsNumberAfter part left.old left.new result (λ k. at_index (index_in length k)
+        (λ j. word words.now (slot + j)) place) }
 {
     match part {
         Ok(k) => match index_within(length as usize, k) {

@@ -15,7 +15,8 @@ use std::alloc::{AllocError, Global};
 
 /// A frame for the statements that follow the first of a sequence, if there are any.
 fn push_rest<'k>(frames: &mut Vec<Frame<'k>>, rest: &'k [Statement]) -> Result<(), AllocError>
-    ensures { IfOk result (λ _. (R : plain.RunningText) → plugged frames.new.items R ≡ plugged frames.old.items (plain.then_list R (stmts rest.now))) }
+    ensures { IfOk result (λ _. (R : plain.RunningText) → plugged frames.new.items R
+        ≡ plugged frames.old.items (plain.then_list R (stmts rest.now))) }
 {
     if rest.is_empty() {
         return Ok(());
@@ -27,7 +28,8 @@ fn push_rest<'k>(frames: &mut Vec<Frame<'k>>, rest: &'k [Statement]) -> Result<(
 /// A statement at its start, inside some frames; a sequence is its first statement, with a frame for the
 /// others.
 pub fn start<'k>(frames: &mut Vec<Frame<'k>>, s: &'k Statement) -> Result<Focus<'k>, AllocError>
-    ensures { IfOk result (λ x. plugged frames.new.items (focused x) ≡ plugged frames.old.items (text_of (stmt s.now))) }
+    ensures { IfOk result (λ x. plugged frames.new.items (focused x)
+        ≡ plugged frames.old.items (text_of (stmt s.now))) }
 {
     match s {
         Statement::Nop => Ok(Focus::Done),
@@ -48,7 +50,8 @@ pub fn start_list<'k>(
     frames: &mut Vec<Frame<'k>>,
     list: &'k [Statement],
 ) -> Result<Focus<'k>, AllocError>
-    ensures { IfOk result (λ x. plugged frames.new.items (focused x) ≡ plugged frames.old.items (texts_of (stmts list.now))) }
+    ensures { IfOk result (λ x. plugged frames.new.items (focused x)
+        ≡ plugged frames.old.items (texts_of (stmts list.now))) }
 {
     if list.is_empty() {
         return Ok(Focus::Done);
@@ -72,7 +75,8 @@ pub fn resume<'k>(frames: &mut Vec<Frame<'k>>) -> Result<Option<Focus<'k>>, Allo
 }
 
 fn is_last(frame: &Frame<'_>) -> bool
-    ensures { (w : List ℤ) (c : List VarCopy) → framed_move frame.now w c Halts ≡ cond result (Moves plain.Done w c 0) Halts }
+    ensures { (w : List ℤ) (c : List VarCopy) → framed_move frame.now w c Halts
+        ≡ cond result (Moves plain.Done w c 0) Halts }
 {
     matches!(frame, Frame::Last)
 }
@@ -152,7 +156,8 @@ fn start_in<'k>(
     frame: Frame<'k>,
     body: &'k Statement,
 ) -> Result<Focus<'k>, AllocError>
-    ensures { IfOk result (λ x. plugged frames.new.items (focused x) ≡ plugged frames.old.items (framed frame.entry (text_of (stmt body.now)))) }
+    ensures { IfOk result (λ x. plugged frames.new.items (focused x)
+        ≡ plugged frames.old.items (framed frame.entry (text_of (stmt body.now)))) }
 {
     frames.push(frame)?;
     start(frames, body)
@@ -164,7 +169,8 @@ pub fn go_on<'k>(
     frames: &mut Vec<Frame<'k>>,
     next: NextText<'k>,
 ) -> Result<Focus<'k>, AllocError>
-    ensures { IfOk result (λ x. plugged frames.new.items (focused x) ≡ plugged frames.old.items (next_text next.entry)) }
+    ensures { IfOk result (λ x. plugged frames.new.items (focused x)
+        ≡ plugged frames.old.items (next_text next.entry)) }
 {
     match next {
         NextText::Done => Ok(Focus::Done),

@@ -15,6 +15,7 @@ use Rattle.copy_slots.specs.Mail.{new_sender, new_taker}
 use Rattle.copy_slots.specs.SeatEnds.{IsBoard, HasEnds, Watches}
 use Rattle.copy_slots.specs.Ports.{MailboxEnds, PortState, sender_in, taker_in, is_keeper, stored_of, stops_of}
 use Rattle.copy_slots.proofs.SeatEndLemmas.{role_is}
+use Rattle.copy_slots.proofs.PortLemmas.{set_at}
 use Rattle.copy_slots.proofs.Seating.{rewatches, snoc_cases}
 use Rattle.slot_board.specs.declared.seats.EndSeats.{EndSeats}
 use Rattle.slot_board.specs.declared.seats.CoreSeats.{CoreSeats}
@@ -38,7 +39,7 @@ true_false e = absurd (cc)
 no_seat : {A B : Type 0} (a : A) → None ≡ Some a → B
 no_seat a e = absurd (cc)
 
-some_is : {A : Type 0} (a b : A) → Some a ≡ Some b → a ≡ b
+pub some_is : {A : Type 0} (a b : A) → Some a ≡ Some b → a ≡ b
 some_is a b e = cc
 
 -- ---- lists
@@ -59,10 +60,9 @@ get_last [] a (suc k) e = absurd (omega arith)
 get_last (x ∷ xs) a zero e = absurd (omega arith)
 get_last (x ∷ xs) a (suc k) e = get_last xs a k (omega arith)
 
-pub get_set : {A : Type 0} (l : List A) (k : ℕ) (a : A) → k < length l → slice_get (set l k a) k ≡ Some a
-get_set [] k a h = absurd (omega arith)
-get_set (x ∷ xs) zero a h = refl
-get_set (x ∷ xs) (suc k) a h = get_set xs k a (omega arith)
+pub none_there : {A : Type 0} (l : List A) (j : ℕ) (s : A) → l ≡ [] → slice_get l j ≡ Some s → ⊥
+none_there [] j s e h = absurd (cc)
+none_there (x ∷ l) j s e h = absurd (cc)
 
 pub get_set_else : {A : Type 0} (l : List A) (k j : ℕ) (a : A) → j ≢ k → slice_get (set l k a) j ≡ slice_get l j
 get_set_else [] k j a n = refl
@@ -255,7 +255,7 @@ module _ {W P Q : Type 0} (core : ℕ) (ends : List (ℕ × ℕ)) (old : List (E
         (λ n. get_snoc mine r _ j (h.mine_at j f p (omega arith) here was));
     rest_at = λ j f p below here was. dite (ℕ_discrete j k)
         (λ q. let same : a ≡ p = seat_is j p q was in let same_end : e ≡ f = end_is j f q here in
-        ap (slice_get (set rest k b)) q ∙ (get_set rest k b near ∙ ap Some (is' ∙ (λ i. left_by_core core (same_end i) (same i)))))
+        ap (slice_get (set rest k b)) q ∙ (set_at rest k b near ∙ ap Some (is' ∙ (λ i. left_by_core core (same_end i) (same i)))))
         (λ n. get_set_else rest k j b n ∙ h.rest_at j f p (omega arith) here was);
     still = λ j far. get_set_else rest k j b (λ q. omega arith) ∙ h.still j (omega arith);
   }

@@ -41,7 +41,7 @@ moved_else other id i n = go (ℕ_discrete i other)
     go (yes e) = absurd (n e)
     go (no _) = refl
 
-not_watch : {A : Type 0} → false ≡ true → A
+pub not_watch : {A : Type 0} → false ≡ true → A
 not_watch e = absurd (cc)
 
 module _ {W P Q : Type 0} (plain : P → Q) (asks : W → ℕ → List Q → Type 0) (answers : W → ℕ → List Q → Q → Type 0) (work : W) (blanks : List Q) where

@@ -10,15 +10,14 @@ use Rattle.copy_slots.specs.declared.view.Role.TheVariants.{Idle, Keeper, Mailbo
 use Rattle.copy_slots.specs.declared.view.View.{View}
 use Rattle.copy_slots.specs.SeatEnds.{IsBoard}
 use Rattle.copy_slots.specs.Ports.{MailboxEnds, PortState, is_keeper, stored_of, stops_of}
+use Rattle.copy_slots.proofs.PortLemmas.{set_at}
 use Rattle.slot_board.specs.declared.seats.EndSeats.{EndSeats}
 use Rattle.slot_board.specs.Slots.{PairSits, AllPairs, sender_of, taker_of, pair_ends, slot_state, is_watch}
 use Rattle.slot_board.specs.Splits.{pick, role_joined}
 use Rattle.slot_board.specs.Joined.{or_else, joined_ends, joined_state, both_seats, AreJoined}
 use Rattle.slot_board.proofs.Pairing.{both_of}
-use Rattle.slot_board.proofs.Cutting.{get_there, get_set, get_set_else}
-
-some_is : {A : Type 0} (a b : A) → Some a ≡ Some b → a ≡ b
-some_is a b e = cc
+use Rattle.slot_board.proofs.SplitLemmas.{not_watch}
+use Rattle.slot_board.proofs.Cutting.{some_is, get_there, get_set_else}
 
 pub one_table : (y z : TableId) → Some y ≡ Some z → y ≡ z
 one_table y z e = some_is y z e
@@ -27,9 +26,6 @@ pub as_many : (y z : TableId) (m n : ℕ) → y ≡ z → IsBoard y m → IsBoar
 as_many y z m n e a b = sym a.1 ∙ (ap (λ (t : TableId). t.slots) e ∙ b.1)
 
 -- ---- the seats that look at the stop word
-
-not_watch : {A : Type 0} → false ≡ true → A
-not_watch e = absurd (cc)
 
 module _ {Q : Type 0} where
   abbrev JoinSays : Role Q → Role Q → Type 0
@@ -63,7 +59,7 @@ module _ {W P Q : Type 0} where
       left_long = length-set left k o ∙ h.left_long;
       at = λ j c d below here there. dite (ℕ_discrete j k)
           (λ q. let s = h.still k (omega arith) in let same : a ≡ c = some_is a c (sym at_now ∙ (s.0 ∙ (ap (slice_get mine) (sym q) ∙ here))) in let same' : b ≡ d = some_is b d (sym at_left ∙ (s.1 ∙ (ap (slice_get theirs) (sym q) ∙ there))) in
-          ap (slice_get (set now k r)) q ∙ (get_set now k r near ∙ ap Some (is ∙ (λ i. both_seats (same i) (same' i)))))
+          ap (slice_get (set now k r)) q ∙ (set_at now k r near ∙ ap Some (is ∙ (λ i. both_seats (same i) (same' i)))))
           (λ n. get_set_else now k j r n ∙ h.at j c d (omega arith) here there);
       still = λ j far. let s = h.still j (omega arith) in (get_set_else now k j r (λ q. omega arith) ∙ s.0, get_set_else left k j o (λ q. omega arith) ∙ s.1);
     }

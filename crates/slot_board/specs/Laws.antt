@@ -8,7 +8,7 @@ use Rattle.copy_slots.specs.declared.view.Sender.{Sender}
 use Rattle.copy_slots.specs.declared.view.Taker.{Taker}
 use Rattle.copy_slots.specs.declared.view.Role.TheVariants.{Keeper, Mailbox}
 use Rattle.copy_slots.specs.declared.view.View.{View}
-use Rattle.copy_slots.specs.Mail.{MailInvariant, starting, spent, opened, collected, offered, took, answered, checked, stops, dealt_left, dealt_right}
+use Rattle.copy_slots.specs.Mail.{MailInvariant, starting, spent, opened, collected, gave, took, gave_back, checked, stops, dealt_left, dealt_right}
 use Rattle.copy_slots.specs.Rule.{Between}
 use Rattle.slot_board.specs.Slots.{is_watch}
 use Rattle.slot_board.specs.Splits.{parent_part, child_part, idle, joined_view}
@@ -28,13 +28,13 @@ module _ {W P Q : Type 0} (plain : P → Q) (asks : W → ℕ → List Q → Typ
         → Allows IsRuledState slots id me k (λ n. n) (collected plain answers (step slots k 0 0 none) me)
     -- the parent stores 1, and gives a job that may be sent
     pub offer : (slots id : ℕ) (me : Me (Option P) (View W Q)) (k : ℕ) (x : Sender Q) (c : Option (Taker Q)) (p : P) → me.0.role ≡ Mailbox k (Some x) c → x.place ≡ Held → (tail : List (ℕ × Option P)) → me.1 ≡ (k, Some p) ∷ tail
-        → (w : W) → me.0.work ≡ Some w → asks w k (x.sent ++ plain p ∷ []) → Allows IsRuledState slots id me k (λ _. 1) (λ _. offered plain (step slots k 1 0 none) me 1)
+        → (w : W) → me.0.work ≡ Some w → asks w k (x.sent ++ plain p ∷ []) → Allows IsRuledState slots id me k (λ _. 1) (λ _. gave plain (step slots k 1 0 none) me 1)
     -- the child loads a turn word, and takes the packet where it is 1
     pub take : (slots id : ℕ) (me : Me (Option P) (View W Q)) (k : ℕ) (b : Option (Sender Q)) (y : Taker Q) → me.0.role ≡ Mailbox k b (Some y) → y.holds ≡ false
         → Allows IsRuledState slots id me k (λ n. n) (took plain asks (step slots k 0 0 none) me)
     -- the child stores 0, and gives a reply that answers the jobs
     pub answer : (slots id : ℕ) (me : Me (Option P) (View W Q)) (k : ℕ) (b : Option (Sender Q)) (y : Taker Q) (p : P) → me.0.role ≡ Mailbox k b (Some y) → y.holds ≡ true → (tail : List (ℕ × Option P)) → me.1 ≡ (k, Some p) ∷ tail
-        → (w : W) → me.0.work ≡ Some w → answers w k y.taken (plain p) → Allows IsRuledState slots id me k (λ _. 0) (λ _. answered plain (step slots k 0 0 none) me 0)
+        → (w : W) → me.0.work ≡ Some w → answers w k y.taken (plain p) → Allows IsRuledState slots id me k (λ _. 0) (λ _. gave_back plain (step slots k 0 0 none) me 0)
     -- a load of the stop word
     pub check : (slots id : ℕ) (me : Me (Option P) (View W Q)) (word : ℕ) → me.0 ≢ spent → word ≡ slots → Allows IsRuledState slots id me word (λ n. n) (checked (step slots word 0 0 none) me)
     -- the root's core stores it

@@ -61,7 +61,8 @@ impl<W: Work> SlotBoard<W> {
         requires { (length blanks.items < 2 ^ 16) × (length ends.now ≡ length blanks.items) }
         ensures whole { IfOk result (λ b. ⟦<SlotBoard<W> as GivesPorts<W>>⟧.is_whole b) }
         ensures ports { IfOk result (λ b. ⟦<SlotBoard<W> as GivesPorts<W>>⟧.ports b
-            ≡ new_ports (⟦<SlotBoard<W> as GivesPorts<W>>⟧.board b) work (map W.plain blanks.items) ends.now root cores) }
+            ≡ new_ports (⟦<SlotBoard<W> as GivesPorts<W>>⟧.board b) work (map W.plain blanks.items) ends.now root
+            cores) }
     {
         let (board, mut keeper) = new_table(alloc, &work, blanks)?;
         let mut all = deal_mailboxes(alloc, &board.shared, &mut keeper, ends.len())?;
@@ -84,7 +85,8 @@ impl<W: Work> SlotBoard<W> {
     /// Out of memory. Then none was given out.
     pub fn ports<'b>(&'b mut self, alloc: Global) -> Result<Vec<SlotPort<'b, W>>, OutOfMemory>
         requires { ⟦<SlotBoard<W> as GivesPorts<W>>⟧.is_whole self.old }
-        ensures { IfOk result (λ ps. map ⟦<SlotPort<'b, W> as Port<W>>⟧.state ps.items ≡ ⟦<SlotBoard<W> as GivesPorts<W>>⟧.ports self.old) }
+        ensures { IfOk result (λ ps. map ⟦<SlotPort<'b, W> as Port<W>>⟧.state ps.items
+            ≡ ⟦<SlotBoard<W> as GivesPorts<W>>⟧.ports self.old) }
     {
         let SlotBoard { board, hands } = self;
         let mut ports = Vec::with_capacity(alloc, hands.len())?;

@@ -18,7 +18,8 @@ use std::collections::VecDeque;
 fn deal_mailbox<W: Work>(top: &MailTable<W>, keeper: &mut MailSeat<W>, from: usize) -> EndSeats<W>
     requires board { (n : ℕ) × IsBoard top.now.table_id n }
     requires keeper { CanDeal top.now from keeper.old }
-    ensures { HandsOut top.now from (from + 1) keeper.old keeper.new (λ bs. AreNewEnds top.now.table_id top.now.key.work.value bs from result.parent result.child) }
+    ensures { HandsOut top.now from (from + 1) keeper.old keeper.new
+        (λ bs. AreNewEnds top.now.table_id top.now.key.work.value bs from result.parent result.child) }
 {
     let mut parent = deal_one(top, keeper, from);
     let child = part(top, &mut parent);
@@ -38,7 +39,8 @@ pub(crate) fn deal_mailboxes<W: Work>(
     requires board { (n : ℕ) × IsBoard top.now.table_id n }
     requires keeper { CanDealAll top.now count keeper.old }
     ensures count { IfOk result (λ v. length v.items ≡ count) }
-    ensures fresh { IfOk result (λ v. HandsOutAll top.now count keeper.old keeper.new (λ bs. AllNew top.now.table_id top.now.key.work.value bs v.items)) }
+    ensures fresh { IfOk result (λ v. HandsOutAll top.now count keeper.old keeper.new
+        (λ bs. AllNew top.now.table_id top.now.key.work.value bs v.items)) }
 {
     let mut all = Vec::new(alloc);
     for from in 0..count {

@@ -82,7 +82,8 @@ impl<'b, W: Work> SlotPort<'b, W> {
     pub fn join(self, other: SlotPort<'b, W>) -> SlotPort<'b, W>
         requires { IsOneBoard (⟦<SlotPort<'b, W> as Port<W>>⟧.state self) (⟦<SlotPort<'b, W> as Port<W>>⟧.state other) }
         ensures { ⟦<SlotPort<'b, W> as Port<W>>⟧.state result
-            ≡ joined_state (⟦<SlotPort<'b, W> as Port<W>>⟧.state self.entry) (⟦<SlotPort<'b, W> as Port<W>>⟧.state other.entry) }
+            ≡ joined_state (⟦<SlotPort<'b, W> as Port<W>>⟧.state self.entry)
+            (⟦<SlotPort<'b, W> as Port<W>>⟧.state other.entry) }
     {
         let SlotPort {
             top,

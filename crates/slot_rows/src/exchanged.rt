@@ -51,7 +51,8 @@ type Told = (Option<[u32; 3]>, [bool; 3]);
 
 /// Then the two ports are one.
 fn exchanged<'b>(mut parent: SlotPort<'b, AnyNumber>, mut child: SlotPort<'b, AnyNumber>) -> Told
-    requires { ArePair (⟦<SlotPort<'b, AnyNumber> as Port<AnyNumber>>⟧.state parent) (⟦<SlotPort<'b, AnyNumber> as Port<AnyNumber>>⟧.state child) }
+    requires { ArePair (⟦<SlotPort<'b, AnyNumber> as Port<AnyNumber>>⟧.state parent)
+        (⟦<SlotPort<'b, AnyNumber> as Port<AnyNumber>>⟧.state child) }
 {
     let packets = exchange(&mut parent, &mut child);
     let before = child.stopped();

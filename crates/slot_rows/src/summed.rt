@@ -124,7 +124,8 @@ fn summed<'b, R: Threads + Wait + Sync>(
     parent: SlotPort<'b, Sums>,
     child: SlotPort<'b, Sums>,
 ) -> (u64, bool)
-    requires { ArePair (⟦<SlotPort<'b, Sums> as Port<Sums>>⟧.state parent) (⟦<SlotPort<'b, Sums> as Port<Sums>>⟧.state child) }
+    requires { ArePair (⟦<SlotPort<'b, Sums> as Port<Sums>>⟧.state parent)
+        (⟦<SlotPort<'b, Sums> as Port<Sums>>⟧.state child) }
 {
     let ((reply, parent), child) = by_two(rt, parent, child);
     (reply, parent.join(child).stopped())

@@ -40,7 +40,8 @@ fn after_optional(w: &Weights<'_>, hidden: bool, s: &Option<Box<Stmt>>) -> bool
 
 /// What a `par` calls, of whose branches so many name the variable.
 fn folded(w: &Weights<'_>, naming: usize) -> u64
-    ensures { (known : ℕ → Tally) → result ≡ of.calls_worth w.now.variable w.now.array (value_by w.now) w.now.worth known naming }
+    ensures { (known : ℕ → Tally) → result ≡ of.calls_worth w.now.variable w.now.array (value_by w.now) w.now.worth
+        known naming }
 {
     if 1 < naming { w.worth } else { 0 }
 }
@@ -48,7 +49,8 @@ fn folded(w: &Weights<'_>, naming: usize) -> u64
 /// A statement.
 #[cycle(statement)]
 fn statement(w: &Weights<'_>, table: &[Tally], hidden: bool, s: &Stmt) -> Tally
-    ensures { result ≡ of.tally w.now.variable w.now.array (value_by w.now) w.now.worth (tally_at table.now) hidden (plain.statement s.now) }
+    ensures { result ≡ of.tally w.now.variable w.now.array (value_by w.now) w.now.worth (tally_at table.now) hidden
+        (plain.statement s.now) }
 {
     match &s.what {
         StmtKind::Nothing => nothing(),
@@ -100,7 +102,8 @@ fn statement(w: &Weights<'_>, table: &[Tally], hidden: bool, s: &Stmt) -> Tally
 
 #[cycle(statement)]
 fn optional(w: &Weights<'_>, table: &[Tally], hidden: bool, s: &Option<Box<Stmt>>) -> Tally
-    ensures { result ≡ of.perhaps_tally w.now.variable w.now.array (value_by w.now) w.now.worth (tally_at table.now) hidden (perhaps_of s.now) }
+    ensures { result ≡ of.perhaps_tally w.now.variable w.now.array (value_by w.now) w.now.worth (tally_at table.now)
+        hidden (perhaps_of s.now) }
 {
     match s {
         None => nothing(),
@@ -111,7 +114,8 @@ fn optional(w: &Weights<'_>, table: &[Tally], hidden: bool, s: &Option<Box<Stmt>
 /// Statements, one after the other.
 #[cycle(statement)]
 pub fn all(w: &Weights<'_>, table: &[Tally], hidden: bool, list: &[Stmt]) -> Tally
-    ensures { result ≡ of.all_tally w.now.variable w.now.array (value_by w.now) w.now.worth (tally_at table.now) hidden (plain.statements list.now) }
+    ensures { result ≡ of.all_tally w.now.variable w.now.array (value_by w.now) w.now.worth (tally_at table.now) hidden
+        (plain.statements list.now) }
 {
     let mut total = nothing();
     let mut now_hidden = hidden;
@@ -151,8 +155,10 @@ fn branch(w: &Weights<'_>, table: &[Tally], hidden: bool, b: &Branch) -> Spread
 
 #[cycle(statement)]
 fn branches(w: &Weights<'_>, table: &[Tally], hidden: bool, list: &[Branch]) -> Spread
-    ensures tally { result.tally ≡ of.branches_tally w.now.variable w.now.array (value_by w.now) w.now.worth (tally_at table.now) hidden (plain.branches list.now) }
-    ensures naming { result.naming ≡ of.branches_naming w.now.variable w.now.array (value_by w.now) w.now.worth (tally_at table.now) (plain.branches list.now) }
+    ensures tally { result.tally ≡ of.branches_tally w.now.variable w.now.array (value_by w.now) w.now.worth
+        (tally_at table.now) hidden (plain.branches list.now) }
+    ensures naming { result.naming ≡ of.branches_naming w.now.variable w.now.array (value_by w.now) w.now.worth
+        (tally_at table.now) (plain.branches list.now) }
 {
     let mut total = Spread {
         tally: nothing(),

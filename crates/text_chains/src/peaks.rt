@@ -26,7 +26,8 @@ use std::alloc::Global;
 
 /// What the text of the function of a number brings.
 fn function_tally(w: &Weights<'_>, table: &[Tally], id: u32) -> Tally
-    ensures { result ≡ of.tally_step w.now.variable w.now.array (value_by w.now) w.now.worth (indexed_text w.now.globals.now.index) (of.tally_at table.now) id }
+    ensures { result ≡ of.tally_step w.now.variable w.now.array (value_by w.now) w.now.worth
+        (indexed_text w.now.globals.now.index) (of.tally_at table.now) id }
 {
     match find_function(&w.globals.index, id) {
         None => nothing(),
@@ -54,7 +55,8 @@ fn table_of(alloc: Global, w: &Weights<'_>, order: &[u32]) -> Result<Vec<Tally>,
 /// function of one variable.
 fn peak(alloc: Global, w: &Weights<'_>, order: &[u32], first: u32) -> Result<u64, OutOfMemory>
     requires { SettlesTallies (indexed_text w.now.globals.now.index) order.now }
-    ensures { IfOk result (λ n. n ≡ peaks.peak_by w.now.variable w.now.array (value_by w.now) w.now.worth (indexed_text w.now.globals.now.index) first) }
+    ensures { IfOk result (λ n. n ≡ peaks.peak_by w.now.variable w.now.array (value_by w.now) w.now.worth
+        (indexed_text w.now.globals.now.index) first) }
 {
     let table = table_of(alloc, w, order)?;
     Ok(started(0, known_of(&table, first)).peak)
@@ -96,7 +98,8 @@ fn peaks_with(
     globals: &[&Declared],
 ) -> Result<u64, OutOfMemory>
     requires { SettlesTallies (indexed_text w.now.globals.now.index) order.now }
-    ensures { IfOk result (λ n. n ≡ peaks.peak_over (value_by w.now) (indexed_text w.now.globals.now.index) first (globals_of globals.now)) }
+    ensures { IfOk result (λ n. n ≡ peaks.peak_over (value_by w.now) (indexed_text w.now.globals.now.index) first
+        (globals_of globals.now)) }
 {
     let mut most: u64 = 0;
     for global in globals {
@@ -121,7 +124,8 @@ pub fn most_words(
     requires faultless { Faultless (indexed_text globals.now.index) names.now }
     requires first { first ≡ main_id (indexed_text globals.now.index) names.now }
     requires variables { globals_of variables.now ≡ variable_items (indexed_text globals.now.index) }
-    ensures { IfOk result (λ n. n ≡ min (peaks.most_words (of.table_value values.now) (kernel_of (indexed_text globals.now.index) names.now)) (2 ^ 64 - 1)) }
+    ensures { IfOk result (λ n. n ≡ min (peaks.most_words (of.table_value values.now)
+        (kernel_of (indexed_text globals.now.index) names.now)) (2 ^ 64 - 1)) }
 {
     let calls = read_calls(alloc, &globals.index)?;
     let order = order(alloc, &calls.functions, &calls.lists)?;

@@ -13,7 +13,8 @@ use Rattle.forec_kernel.specs.WellFormed.{FineStmt}
 use Rattle.text_kernel.specs.declared.names.Slot.{Slot}
 use Rattle.text_kernel.specs.Bindings.{params_at}
 use Rattle.text_kernel.specs.Lowering as low
-use Rattle.text_kernel.specs.Lowering.{sequence, lower_statement, lower_list, lower_perhaps, lower_branches, scope_after, scope_after_perhaps, par_after, param_names, NextNumbers, Made, Lowered, Inlined, inlined_body, inlined_step, nothing_inlined}
+use Rattle.text_kernel.specs.Lowering.{sequence, lower_statement, lower_list, lower_perhaps, lower_branches, scope_after, par_after, param_names, NextNumbers, Made, Lowered, Inlined, inlined_body, inlined_step, nothing_inlined}
+use Rattle.text_kernel.proofs.ForParts.{for_parts}
 use Rattle.text_kernel.proofs.Fine.{none_left, none_right, parts_left, parts_right, good_use, Knows}
 use Rattle.text_kernel.proofs.FineStatements.{sequence_fine}
 use Rattle.text_kernel.proofs.Grown.{made_of, inlined_grows, grows, list_grows, perhaps_grows}
@@ -99,24 +100,21 @@ module _ (text : Text) (k : PlainKernel) (uses : List â„•) (names : List (List â
           let sc1 = inner_scope sc in
           let sc2 = after_perhaps sc1 start in
           let sc3 = after_perhaps sc2 step in
-          let s2 = scope_after_perhaps text s n.slot start in
-          let i = lower_perhaps text called t s n start in
-          let d = lower_perhaps text called t s2 i.next step in
-          let s3 = scope_after_perhaps text s2 i.next.slot step in
-          let last = lower_statement text called t s3 d.next body in
+          let parts = for_parts text called t s n start step in
+          let last = lower_statement text called t parts.inside parts.stepped.next body in
           let r4 = in_perhaps text sc2 step ++ in_statement text (inner_scope sc3) body in
           let r3 = in_optional text sc2 test ++ r4 in
           let r2 = in_perhaps text sc1 start ++ r3 in
           let h2 = parts_right judging (in_bound bound) r2 h in
           let h4 = parts_right judging (in_optional text sc2 test) r4 (parts_right judging (in_perhaps text sc1 start) r3 h2) in
           let long_i = threads_grow (perhaps_grows text called (inlined_grows text deep) t s n start).grown in
-          let long_d = threads_grow (perhaps_grows text called (inlined_grows text deep) t s2 i.next step).grown in
-          let z2 = sits_right k n.thread i.next.thread i.made (d.made ++ last.made) long_i z in
-          all_append k uses i.made (d.made ++ last.made)
-          (perhaps_made t s n sc1 start (parts_left judging (in_perhaps text sc1 start) r3 h2) (sits_left k n.thread i.made (d.made ++ last.made) z))
-          (all_append k uses d.made last.made
-          (perhaps_made t s2 i.next sc2 step (parts_left judging (in_perhaps text sc2 step) (in_statement text (inner_scope sc3) body) h4) (sits_left k i.next.thread d.made last.made z2))
-          (made_fine t s3 d.next (inner_scope sc3) body (parts_right judging (in_perhaps text sc2 step) (in_statement text (inner_scope sc3) body) h4) (sits_right k i.next.thread d.next.thread d.made last.made long_d z2)))
+          let long_d = threads_grow (perhaps_grows text called (inlined_grows text deep) t parts.tested parts.started.next step).grown in
+          let z2 = sits_right k n.thread parts.started.next.thread parts.started.made (parts.stepped.made ++ last.made) long_i z in
+          all_append k uses parts.started.made (parts.stepped.made ++ last.made)
+          (perhaps_made t s n sc1 start (parts_left judging (in_perhaps text sc1 start) r3 h2) (sits_left k n.thread parts.started.made (parts.stepped.made ++ last.made) z))
+          (all_append k uses parts.stepped.made last.made
+          (perhaps_made t parts.tested parts.started.next sc2 step (parts_left judging (in_perhaps text sc2 step) (in_statement text (inner_scope sc3) body) h4) (sits_left k parts.started.next.thread parts.stepped.made last.made z2))
+          (made_fine t parts.inside parts.stepped.next (inner_scope sc3) body (parts_right judging (in_perhaps text sc2 step) (in_statement text (inner_scope sc3) body) h4) (sits_right k parts.started.next.thread parts.stepped.next.thread parts.stepped.made last.made long_d z2)))
       made_fine t s n sc (Pause at) h z = none_fine k uses
       made_fine t s n sc (Par at bs) h z = branches_made t s n.par (record { slot = n.slot; thread = n.thread; par = par_after bs n.par }) sc bs h z
       made_fine t s n sc (Abort at weak immediate test body) h z =

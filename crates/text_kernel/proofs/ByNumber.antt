@@ -17,6 +17,7 @@ use Rattle.text_kernel.specs.Kernels.{filter_in}
 use Rattle.text_kernel.proofs.VariableNumbers.{width_of, own_number, next_number}
 use Rattle.text_kernel.proofs.Fine.{none_left, none_right}
 use Rattle.text_kernel.proofs.Faultless.{new_name, items_after}
+use Rattle.text_kernel.proofs.Known.{same_id}
 
 -- ---- lists
 
@@ -83,10 +84,6 @@ module _ (text : Text) (names : List (List ℕ)) where
     pub below : index < width global
     pub of : (x : PlainVariable) → slice_get (variables t) n ≡ Some x → x.global ≡ global
     pub number : variable_number global.name.id t + index ≡ n
-
-  same_id : (y : PlainItem) → item_id y ≡ (name_of y).id
-  same_id (IsGlobal g) = refl
-  same_id (IsFunction f) = refl
 
   -- one more item, with another name
   past : (y : PlainItem) (t : List PlainItem) (n m : ℕ) (r : Numbered t n) → ((name_of y).id == r.global.name.id) ≡ false → variables_in y + n ≡ m →

@@ -14,6 +14,7 @@ use Rattle.forec_tree.specs.Scopes.{Scope, no_scope, inner_scope, after, after_p
 use Rattle.forec_tree.specs.Findings.{Finding, Use, Declares, Bound, Loop, Synchronous, Gives, Opens, Closes, use_at, in_bound, in_term, in_terms, in_optional, in_locals, in_target, in_statement, in_statements, in_perhaps, in_branches, in_params}
 use Rattle.forec_tree.specs.Rules.{Judging, fault_if, use_faults, findings_faults}
 use Rattle.forec_tree.specs.Faults.{Member, in_function, functions_called, called_in, is_in}
+use Rattle.forec_tree.proofs.Agrees.{in_left, in_right}
 use Rattle.forec_kernel.specs.Terms as kernel
 use Rattle.forec_kernel.specs.Terms.{Expr, Exprs, Stmt, Stmts, no_stmts, more_stmts}
 use Rattle.forec_kernel.specs.Combining.{contains}
@@ -42,18 +43,6 @@ in_two v (x ∷ xs) ys h = pick (x == v) (in_two v xs ys) h
         (cond b true (contains v xs) ≡ true) ⊎ (contains v ys ≡ true)
     pick true k g = inl refl
     pick false k g = k g
-
-in_first : (v : ℕ) (xs ys : List ℕ) → is_in v xs ≡ true → is_in v (xs ++ ys) ≡ true
-in_first v [] ys h = cc
-in_first v (x ∷ xs) ys h = pick (x == v) (in_first v xs ys) h
-  where
-    pick : (b : Bool) → (is_in v xs ≡ true → is_in v (xs ++ ys) ≡ true) → cond b true (is_in v xs) ≡ true → cond b true (is_in v (xs ++ ys)) ≡ true
-    pick true k g = refl
-    pick false k g = k g
-
-in_second : (v : ℕ) (xs ys : List ℕ) → is_in v ys ≡ true → is_in v (xs ++ ys) ≡ true
-in_second v [] ys h = h
-in_second v (x ∷ xs) ys h = elim (x == v) as (λ b. cond b true (is_in v (xs ++ ys)) ≡ true) [ true ↦ refl | false ↦ in_second v xs ys h ]
 
 called_append : (fs gs : List Finding) → called_in (fs ++ gs) ≡ called_in fs ++ called_in gs
 called_append [] gs = refl
@@ -88,6 +77,24 @@ pub record Named (text : Text) (fs : List Finding) (c : ℕ) : Type 0 where
 abbrev pub AllNamed : Text → List Finding → List ℕ → Type 0
 AllNamed text fs xs = (c : ℕ) → contains c xs ≡ true → Named text fs c
 
+pub read_calls : (x : Stands) → wf.calls_of (read_as x) ≡ []
+read_calls (st.AtSlot slot) = refl
+read_calls (st.AtSlots slot size) = refl
+read_calls (st.AsVariable v) = refl
+read_calls (st.AsVariables v n) = refl
+read_calls (st.AsNumber n) = refl
+read_calls (st.AsTable t) = refl
+read_calls st.AsNothing = refl
+
+pub element_calls : (x : Stands) (i : Expr) (place : Place) → wf.calls_of (element_as x i place) ≡ wf.calls_of i
+element_calls (st.AtSlot slot) i place = refl
+element_calls (st.AtSlots slot size) i place = refl
+element_calls (st.AsVariable v) i place = refl
+element_calls (st.AsVariables v n) i place = refl
+element_calls (st.AsNumber n) i place = refl
+element_calls (st.AsTable t) i place = refl
+element_calls st.AsNothing i place = refl
+
 module _ (text : Text) where
   none_named : (fs : List Finding) → AllNamed text fs []
   none_named fs c h = cc
@@ -98,12 +105,12 @@ module _ (text : Text) where
   left_named : (fs gs : List Finding) (xs : List ℕ) → AllNamed text fs xs → AllNamed text (fs ++ gs) xs
   left_named fs gs xs h c i =
       let n = h c i in
-      record { id = n.id; called = ap (is_in n.id) (called_append fs gs) ∙ in_first n.id (called_in fs) (called_in gs) n.called; function = n.function; found = n.found; gives = n.gives; is = n.is }
+      record { id = n.id; called = ap (is_in n.id) (called_append fs gs) ∙ in_left n.id (called_in fs) (called_in gs) n.called; function = n.function; found = n.found; gives = n.gives; is = n.is }
 
   right_named : (fs gs : List Finding) (xs : List ℕ) → AllNamed text gs xs → AllNamed text (fs ++ gs) xs
   right_named fs gs xs h c i =
       let n = h c i in
-      record { id = n.id; called = ap (is_in n.id) (called_append fs gs) ∙ in_second n.id (called_in fs) (called_in gs) n.called; function = n.function; found = n.found; gives = n.gives; is = n.is }
+      record { id = n.id; called = ap (is_in n.id) (called_append fs gs) ∙ in_right n.id (called_in fs) (called_in gs) n.called; function = n.function; found = n.found; gives = n.gives; is = n.is }
 
   -- two parts, one after the other
   parts_named : (fs gs : List Finding) (xs ys : List ℕ) → AllNamed text fs xs → AllNamed text gs ys → AllNamed text (fs ++ gs) (xs ++ ys)
@@ -150,24 +157,6 @@ module _ (text : Text) where
           pick : (b : Bool) → (f == c) ≡ b → (c ≡ f) ⊎ (contains c xs ≡ true)
           pick true e = inl (grind (arith, nat_tests))
           pick false e = inr (sym (ap (λ b. cond b true (contains c xs)) e) ∙ h)
-
-  read_calls : (x : Stands) → wf.calls_of (read_as x) ≡ []
-  read_calls (st.AtSlot slot) = refl
-  read_calls (st.AtSlots slot size) = refl
-  read_calls (st.AsVariable v) = refl
-  read_calls (st.AsVariables v n) = refl
-  read_calls (st.AsNumber n) = refl
-  read_calls (st.AsTable t) = refl
-  read_calls st.AsNothing = refl
-
-  element_calls : (x : Stands) (i : Expr) (place : Place) → wf.calls_of (element_as x i place) ≡ wf.calls_of i
-  element_calls (st.AtSlot slot) i place = refl
-  element_calls (st.AtSlots slot size) i place = refl
-  element_calls (st.AsVariable v) i place = refl
-  element_calls (st.AsVariables v n) i place = refl
-  element_calls (st.AsNumber n) i place = refl
-  element_calls (st.AsTable t) i place = refl
-  element_calls st.AsNothing i place = refl
 
   module _ (j : Judging) (gives : j.gives ≡ true) where
     mutual

@@ -1,5 +1,6 @@
 -- In an int function that breaks no rule nothing is certain to pause, so each of its loops has a bound.
 use Rattle.std.proofs.Common.{ℕ, ◌≡◌, ◌∙◌, sym, ap, refl, IsTrue, Bool, true, false, cond, not, ◌&&◌, ◌||◌, Option, Some, None, List, [], ◌∷◌, ◌++◌}
+use Rattle.std.proofs.lemmas.Bool.{and_right, or_from}
 use Rattle.forec_base.specs.declared.Place.{Place}
 use Rattle.forec_tree.specs.declared.tree.Name.{Name}
 use Rattle.forec_tree.specs.declared.tree.Number.{Number}
@@ -15,25 +16,13 @@ use Rattle.forec_tree.specs.Rules.{Judging, fault_if, is_constant, is_changing, 
 use Rattle.forec_kernel.specs.WellFormed.{FineBound}
 use Rattle.text_kernel.specs.Bindings.{number_of}
 use Rattle.text_kernel.specs.Lowering.{bound_of, or_inferred}
-use Rattle.text_kernel.proofs.Fine.{none_left, none_right, not_broken, not_not, parts_left, parts_right, good_use}
+use Rattle.text_kernel.proofs.Fine.{none_left, none_right, not_broken, not_not, right_false, parts_left, parts_right, good_use}
 use Rattle.text_kernel.proofs.Unbroken.{Unbroken}
 use Rattle.text_kernel.proofs.Bounds.{AtMost, written_short, inferred_short}
-
-right_of : (a b : Bool) → a ≡ true → (a && b) ≡ false → b ≡ false
-right_of true b e h = h
-right_of false b e h = cc
 
 clash : {P : Type 0} (b : Bool) → b ≡ true → b ≡ false → P
 clash true h g = cc
 clash false h g = cc
-
-and_no : (a b : Bool) → b ≡ false → (a && b) ≡ false
-and_no true b h = h
-and_no false b h = refl
-
-or_no : (a b : Bool) → a ≡ false → b ≡ false → (a || b) ≡ false
-or_no true b h g = cc
-or_no false b h g = g
 
 -- a void function isn't called as a statement: rule 13
 no_void : (j : Judging) (n : ℕ) (name : Name) (m : Meaning) → j.gives ≡ true → use_faults j (Runs n) name m ≡ [] → runs_void (Runs n) m ≡ false
@@ -45,7 +34,7 @@ no_void j n name m g h =
     let h8 = none_right (fault_if (writes (Runs n) && means_kind is_input m) name.place 8) _ h7 in
     let h9 = none_right (fault_if (writes (Runs n) && means_kind is_constant m) name.place 9) _ h8 in
     let h11 = none_right (fault_if (j.gives && means_kind is_changing m) name.place 11) _ h9 in
-    right_of j.gives (runs_void (Runs n) m) g (not_broken (j.gives && runs_void (Runs n) m) name.place 13 h11)
+    right_false j.gives (runs_void (Runs n) m) g (not_broken (j.gives && runs_void (Runs n) m) name.place 13 h11)
 
 no_run : {P : Type 0} (j : Judging) (n : ℕ) (name : Name) (m : Meaning) → j.gives ≡ true → use_faults j (Runs n) name m ≡ [] → P
 no_run {P} j n name m g h = pick m (good_use j (Runs n) name m h).known (good_use j (Runs n) name m h).fits (no_void j n name m g h)
@@ -73,7 +62,7 @@ module _ (text : Text) (j : Judging) (gives : j.gives ≡ true) (called : ℕ �
         ap (λ x. x && certain_perhaps text called b) (certain_no (inner_scope sc) a (parts_left j (in_statement text (inner_scope sc) a) (in_perhaps text (inner_scope sc) b) r))
     certain_no sc (While at test bound body) h =
         let r = parts_right j (in_bound bound) (in_term text sc test ++ in_statement text (inner_scope sc) body) h in
-        and_no (is_nonzero test) (certain_by text called body) (certain_no (inner_scope sc) body (parts_right j (in_term text sc test) (in_statement text (inner_scope sc) body) r))
+        and_right (is_nonzero test) (certain_by text called body) (certain_no (inner_scope sc) body (parts_right j (in_term text sc test) (in_statement text (inner_scope sc) body) r))
     certain_no sc (For at start test step bound body) h =
         let sc2 = after_perhaps (inner_scope sc) start in
         let sc3 = after_perhaps sc2 step in
@@ -81,7 +70,7 @@ module _ (text : Text) (j : Judging) (gives : j.gives ≡ true) (called : ℕ �
         let r3 = in_optional text sc2 test ++ r4 in
         let h2 = parts_right j (in_bound bound) (in_perhaps text (inner_scope sc) start ++ r3) h in
         let h4 = parts_right j (in_optional text sc2 test) r4 (parts_right j (in_perhaps text (inner_scope sc) start) r3 h2) in
-        and_no (always test || at_least_one (inferred text (For at start test step bound body))) (certain_by text called body)
+        and_right (always test || at_least_one (inferred text (For at start test step bound body))) (certain_by text called body)
         (certain_no (inner_scope sc3) body (parts_right j (in_perhaps text sc2 step) (in_statement text (inner_scope sc3) body) h4))
     certain_no sc (Pause at) h = no_pause at [] h
     certain_no sc (Par at bs) h = no_pause at (in_branches text sc bs) h
@@ -91,13 +80,13 @@ module _ (text : Text) (j : Judging) (gives : j.gives ≡ true) (called : ℕ �
     some_no : (sc : Scope) (a : Statements) → findings_faults j (in_statements text sc a) ≡ [] → some_certain text called a ≡ false
     some_no sc no_statements h = refl
     some_no sc (more_statements a rest) h =
-        or_no (certain_by text called a) (some_certain text called rest)
+        or_from (certain_by text called a) (some_certain text called rest)
         (certain_no sc a (parts_left j (in_statement text sc a) (in_statements text (after sc a) rest) h))
         (some_no (after sc a) rest (parts_right j (in_statement text sc a) (in_statements text (after sc a) rest) h))
 
 -- ---- bounds
 
-thread_only : (b : Bool) → b ≡ false → IsTrue (cond b false true)
+pub thread_only : (b : Bool) → b ≡ false → IsTrue (cond b false true)
 thread_only true e = cc
 thread_only false e = refl
 

@@ -4,6 +4,7 @@ use Rattle.std.proofs.lemmas.Bool.Decides.{nat_tests}
 use Rattle.std.proofs.lemmas.Bool.{and_from}
 use Rattle.std.proofs.lemmas.List.{get_or-append-add}
 use Rattle.forec_tree.specs.Faults.{is_in}
+use Rattle.forec_tree.proofs.Agrees.{in_left, in_right}
 use Rattle.forec_kernel.specs.Combining.{contains}
 use Rattle.forec_kernel.specs.WellFormed.{all_in}
 use Rattle.text_kernel.specs.Lowering.{Made, vars_of, vars_made}
@@ -20,19 +21,6 @@ within_self xs = record { all = λ v h. h }
 
 pub within_trans : (xs ys zs : List ℕ) → Within xs ys → Within ys zs → Within xs zs
 within_trans xs ys zs w z = record { all = λ v h. z.all v (w.all v h) }
-
-more_left : (v x : ℕ) (xs ys : List ℕ) (b : Bool) → (x == v) ≡ b → is_in v (x ∷ xs) ≡ true → (is_in v xs ≡ true → is_in v (xs ++ ys) ≡ true) → is_in v ((x ∷ xs) ++ ys) ≡ true
-more_left v x xs ys true e h k = ap (λ b. cond b true (is_in v (xs ++ ys))) e
-more_left v x xs ys false e h k =
-    ap (λ b. cond b true (is_in v (xs ++ ys))) e ∙ k (ap (λ b. cond b true (is_in v xs)) (sym e) ∙ h)
-
-pub in_left : (v : ℕ) (xs ys : List ℕ) → is_in v xs ≡ true → is_in v (xs ++ ys) ≡ true
-in_left v [] ys h = cc
-in_left v (x ∷ xs) ys h = more_left v x xs ys (x == v) refl h (λ k. in_left v xs ys k)
-
-pub in_right : (v : ℕ) (xs ys : List ℕ) → is_in v ys ≡ true → is_in v (xs ++ ys) ≡ true
-in_right v [] ys h = h
-in_right v (x ∷ xs) ys h = let g = in_right v xs ys h in ap (cond (x == v) true) g ∙ (elim (x == v) as (λ b. cond b true true ≡ true) [ true ↦ refl | false ↦ refl ])
 
 pub within_left : (xs ys : List ℕ) → Within xs (xs ++ ys)
 within_left xs ys = record { all = λ v h. in_left v xs ys h }

@@ -1,13 +1,14 @@
 -- What a program that breaks no rule shows of its items: no list of faults has one, no function reaches itself, each name means its own item, and thread 0 has a function to run.
 use Rattle.std.proofs.Common.{ℕ, ◌≤◌, ◌≡◌, ◌∙◌, sym, ap, refl, subst, inl, inr, Bool, true, false, cond, not, ◌==◌, ◌&&◌, nat_lt, nat_le, Option, Some, None, List, [], ◌∷◌, ◌++◌, append_assoc, length, arith}
+use Rattle.std.proofs.lemmas.Bool.{not-true}
 use Rattle.std.proofs.lemmas.Bool.{and_parts}
 use Rattle.std.proofs.lemmas.Bool.Decides.{nat_tests}
-use Rattle.forec_tree.specs.declared.fault.Fault.{Fault}
 use Rattle.forec_tree.specs.Terms.{Text, PlainItem, PlainFunction, IsGlobal, IsFunction}
 use Rattle.forec_tree.specs.Scopes.{name_of, find_item}
 use Rattle.forec_tree.specs.Pauses.{find_function}
 use Rattle.forec_tree.specs.Rules.{fault_if, is_none, is_long, some_always_returns, findings_faults, loop_faults}
 use Rattle.forec_tree.specs.Faults.{in_function, functions_called, Leads, Before, none_before, after_item, item_named, is_start, start_name, main_place, main_faults, function_faults, item_faults, items_faults, text_faults, late_item_faults, late_faults, Member, here, later}
+use Rattle.forec_check.proofs.Acyclic.{no_members}
 use Rattle.forec_check.specs.Faultless.{Faultless}
 use Rattle.forec_check.proofs.Acyclic.{no_reach}
 use Rattle.text_kernel.specs.Kernels.{main_id}
@@ -19,10 +20,6 @@ pub record Clean (text : Text) (names : List (List ℕ)) : Type 0 where
   pub items : items_faults text names none_before text ≡ []
   pub free : (f : ℕ) → Leads (functions_called text) f f → ⊥
   pub late : late_faults text names text ≡ []
-
-no_members : (fs : List Fault) → ((f : Fault) → Member f fs → ⊥) → fs ≡ []
-no_members [] h = refl
-no_members (f ∷ fs) h = absurd (h f here)
 
 pub clean_of : (text : Text) (names : List (List ℕ)) → Faultless text names → Clean text names
 clean_of text names h =
@@ -155,10 +152,6 @@ start_at names (x ∷ xs) id h = pick x (is_start names x) refl h (λ e. start_a
         record { function = f; member = here; starts = e; named = sym (chosen_some (is_start names (IsFunction f)) f.name.id id (start_name names xs) e d) }
     pick (IsFunction f) false e d k = more (IsFunction f) (k (sym (ap (λ b. cond b (Some f.name.id) (start_name names xs)) e) ∙ d))
 
-turned : (b : Bool) → not b ≡ true → b ≡ false
-turned true h = cc
-turned false h = refl
-
 module _ (text : Text) (names : List (List ℕ)) (clean : Clean text names) where
   -- each item is the one that its name means
   pub own_item : (i : PlainItem) → Member i text → find_item (name_of i).id text ≡ Some i
@@ -189,7 +182,7 @@ module _ (text : Text) (names : List (List ℕ)) (clean : Clean text names) wher
         s.function,
         record {
           found = ap (λ n. find_item n text) is ∙ own_item (IsFunction s.function) s.member;
-          void = turned s.function.gives last.0;
+          void = not-true s.function.gives last.0;
           params = grind (arith, nat_tests);
         },
       )

@@ -1,5 +1,6 @@
 -- How many functions, inputs and outputs there are: rules 24 and 22.
 use Rattle.std.proofs.Common.{ℕ, zero, suc, ◌+◌, ◌≤◌, ◌≡◌, ◌∙◌, sym, ap, refl, Bool, true, false, cond, ◌&&◌, ◌||◌, nat_lt, nat_le, Option, Some, None, List, [], ◌∷◌, ◌++◌, length, arith}
+use Rattle.std.proofs.lemmas.Bool.{or_parts}
 use Rattle.std.proofs.lemmas.Bool.Decides.{nat_tests}
 use Rattle.std.proofs.lemmas.List.{length-map}
 use Rattle.forec_tree.specs.declared.tree.GlobalKind.{GlobalKind}
@@ -12,20 +13,8 @@ use Rattle.forec_tree.specs.Rules.{fault_if, is_input, is_output, is_long, lengt
 use Rattle.forec_tree.specs.Faults.{Before, none_before, after_item, one_if, output_count, runs_over, item_named, combine_faults, item_faults, items_faults}
 use Rattle.text_kernel.specs.Kernels as kernels
 use Rattle.text_kernel.specs.Kernels.{kernel_of, int_functions, numbers_of}
-use Rattle.text_kernel.proofs.Fine.{none_left, none_right, not_broken}
+use Rattle.text_kernel.proofs.Fine.{none_left, none_right, not_broken, right_false}
 use Rattle.text_kernel.proofs.Faultless.{Clean}
-
-or_first : (a b : Bool) → (a || b) ≡ false → a ≡ false
-or_first true b h = cc
-or_first false b h = refl
-
-or_second : (a b : Bool) → (a || b) ≡ false → b ≡ false
-or_second true b h = cc
-or_second false b h = h
-
-and_second : (a b : Bool) → (a && b) ≡ false → a ≡ true → b ≡ false
-and_second true b h e = h
-and_second false b h e = cc
 
 constant_no : (k : GlobalKind) → is_input k ≡ true → is_constant k ≡ false
 constant_no Const h = cc
@@ -145,7 +134,7 @@ module _ (text : Text) (names : List (List ℕ)) where
   inputs_few b (IsFunction f ∷ xs) n h l =
       inputs_few (after_item b (IsFunction f)) xs n (none_right (item_faults text names b (IsFunction f)) (items_faults text names (after_item b (IsFunction f)) xs) h) l
   inputs_few b (IsGlobal g ∷ xs) n h l =
-      let broken = or_first _ _ (limits b g (none_left (item_faults text names b (IsGlobal g)) (items_faults text names (after_item b (IsGlobal g)) xs) h)) in
+      let broken = (or_parts _ _ (limits b g (none_left (item_faults text names b (IsGlobal g)) (items_faults text names (after_item b (IsGlobal g)) xs) h))).0 in
       let more = none_right (item_faults text names b (IsGlobal g)) (items_faults text names (after_item b (IsGlobal g)) xs) h in
       pick (is_constant g.kind) (is_input g.kind) refl refl broken (λ m k. inputs_few (after_item b (IsGlobal g)) xs m more k)
     where
@@ -160,7 +149,7 @@ module _ (text : Text) (names : List (List ℕ)) where
           omega (arith, k, z, front)
       pick false true e q w r =
           let z = ap one_if q in
-          let low : nat_le 64 b.inputs ≡ false = and_second (is_input g.kind) (nat_le 64 b.inputs) w q in
+          let low : nat_le 64 b.inputs ≡ false = right_false (is_input g.kind) (nat_le 64 b.inputs) q w in
           let up : suc b.inputs ≤ 64 = grind (arith, nat_tests) in
           let k = r (n + width g) (omega (arith, z, up)) in
           let front = item_front is_input g false true e q xs n in
@@ -177,7 +166,7 @@ module _ (text : Text) (names : List (List ℕ)) where
   outputs_few b (IsFunction f ∷ xs) n h l =
       outputs_few (after_item b (IsFunction f)) xs n (none_right (item_faults text names b (IsFunction f)) (items_faults text names (after_item b (IsFunction f)) xs) h) l
   outputs_few b (IsGlobal g ∷ xs) n h l =
-      let broken = or_second _ _ (limits b g (none_left (item_faults text names b (IsGlobal g)) (items_faults text names (after_item b (IsGlobal g)) xs) h)) in
+      let broken = (or_parts _ _ (limits b g (none_left (item_faults text names b (IsGlobal g)) (items_faults text names (after_item b (IsGlobal g)) xs) h))).1 in
       let more = none_right (item_faults text names b (IsGlobal g)) (items_faults text names (after_item b (IsGlobal g)) xs) h in
       let fits = not_over 64 b.outputs (output_count g) broken l in
       pick (is_constant g.kind) (is_output g.kind) refl refl (λ m. outputs_few (after_item b (IsGlobal g)) xs m more fits)

@@ -7,7 +7,7 @@ use Rattle.forec_tree.specs.Faults.{Member, here, later}
 use Rattle.forec_tree.proofs.VariableCounts.{variables_counted}
 use Rattle.forec_kernel.specs.Combining.{contains}
 use Rattle.forec_kernel.specs.Shapes.{PlainKernel}
-use Rattle.forec_kernel.specs.Texts.{uses_in, uses_of, body_of}
+use Rattle.forec_kernel.specs.Texts.{words_in, words_of, uses_in, uses_of, body_of}
 use Rattle.forec_kernel.specs.Terms as kernel
 use Rattle.forec_kernel.specs.WellFormed.{FineRoot, FineChild, FinePar, pars_of, blank_thread, thread_of, count_up, numbered, all_in}
 use Rattle.text_kernel.specs.Lowering.{Made}
@@ -114,6 +114,15 @@ module _ (text : Text) (names : List (List ℕ)) where
   pub uses_made : (i : ℕ) → i < length (root text names).made → uses_of (kernel_of text names) (suc i) ≡ filter_in (at (root text names).made i).named (count_up 0 (variable_count text names))
   unfolding kernel_of
   uses_made i l = shapes_uses (root text names).made i l
+
+  shapes_words : (a : List Made) (i : ℕ) → i < length a → words_in (map (thread_shape text names) a) i ≡ (at a i).words
+  shapes_words [] i l = absurd (omega arith)
+  shapes_words (m ∷ a) zero l = refl
+  shapes_words (m ∷ a) (suc i) l = shapes_words a i (omega arith)
+
+  pub words_made : (i : ℕ) → i < length (root text names).made → words_of (kernel_of text names) (suc i) ≡ (at (root text names).made i).words
+  unfolding kernel_of
+  words_made i l = shapes_words (root text names).made i l
 
   -- the parent's `uses` have all that the thread names
   uses_in_parent : (i u : ℕ) → u < suc i → i < length (root text names).made → (at (root text names).made i).parent ≡ u →

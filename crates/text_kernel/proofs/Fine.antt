@@ -53,9 +53,9 @@ pub record GoodUse (gives : Bool) (how : How) (m : Meaning) : Type 0 where
   pub written : writes how ≡ true → means_kind is_constant m ≡ false
   pub counts : miscounts (argument_count how) m ≡ false
 
-only : (a b : Bool) → a ≡ true → (a && b) ≡ false → b ≡ false
-only true b e h = h
-only false b e h = cc
+pub right_false : (a b : Bool) → a ≡ true → (a && b) ≡ false → b ≡ false
+right_false true b e h = h
+right_false false b e h = cc
 
 pub good_use : (j : Judging) (how : How) (name : Name) (m : Meaning) → use_faults j how name m ≡ [] → GoodUse j.gives how m
 good_use j how name m h =
@@ -67,7 +67,7 @@ good_use j how name m h =
     let q9 = none_right (fault_if (writes how && means_kind is_constant m) name.place 9) _ q8 in
     record {
       constant = not_broken (j.gives && means_kind is_changing m) name.place 11 (none_left (fault_if (j.gives && means_kind is_changing m) name.place 11) _ q9);
-      written = λ w. only (writes how) (means_kind is_constant m) w (not_broken (writes how && means_kind is_constant m) name.place 9 (none_left (fault_if (writes how && means_kind is_constant m) name.place 9) _ q8));
+      written = λ w. right_false (writes how) (means_kind is_constant m) w (not_broken (writes how && means_kind is_constant m) name.place 9 (none_left (fault_if (writes how && means_kind is_constant m) name.place 9) _ q8));
       known = not_broken (is_unknown m) name.place 1 (none_left (fault_if (is_unknown m) name.place 1) _ h);
       fits = not_not (fits_use how m) (not_broken (not (fits_use how m)) name.place 4 (none_left (fault_if (not (fits_use how m)) name.place 4) _ r));
       counts = not_broken (miscounts (argument_count how) m) name.place 5 (none_left (fault_if (miscounts (argument_count how) m) name.place 5) _ q);

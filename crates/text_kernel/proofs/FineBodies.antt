@@ -1,5 +1,5 @@
 -- Bodies of a text without faults are well formed: one induction over statements, with what it needs of loops, locals and calls as parameters.
-use Rattle.std.proofs.Common.{ℕ, zero, suc, ◌+◌, ◌<◌, ◌≤◌, ◌≡◌, ◌≢◌, ◌∙◌, sym, ap, refl, Bool, true, false, cond, not, ◌==◌, IsTrue, Option, Some, None, List, [], ◌∷◌, ◌++◌, length, length-append, get_or, subst, arith}
+use Rattle.std.proofs.Common.{ℕ, zero, suc, ◌+◌, ◌<◌, ◌≤◌, ◌≡◌, ◌≢◌, ◌∙◌, sym, ap, Bool, true, false, not, ◌==◌, Option, Some, None, List, [], ◌∷◌, ◌++◌, length, length-append, get_or, subst, arith}
 use Rattle.std.proofs.lemmas.Bool.Decides.{nat_tests}
 use Rattle.forec_base.specs.declared.Place.{Place}
 use Rattle.forec_tree.specs.declared.tree.Name.{Name}
@@ -21,6 +21,7 @@ use Rattle.text_kernel.specs.Bindings as binds
 use Rattle.text_kernel.specs.Bindings.{find_slot}
 use Rattle.text_kernel.specs.Lowering as low
 use Rattle.text_kernel.specs.Lowering.{lower_term, lower_terms, sequence, ends_with, set_params, lower_locals, slots_after, optional_test, bound_of, or_inferred, lower_statement, lower_list, lower_perhaps, lower_branches, scope_after, scope_after_perhaps, after_start, then_step, par_of, par_after, param_names, NextNumbers, Made, Inlined}
+use Rattle.text_kernel.proofs.ForParts.{for_parts}
 use Rattle.text_kernel.proofs.Fine.{none_left, none_right, not_broken, not_not, parts_left, parts_right, GoodUse, seen_option, Matches, Knows, fine_term, fine_terms, count_lowered, use_good}
 use Rattle.text_kernel.proofs.FineStatements.{sequence_fine, ends_fine, target_fine}
 use Rattle.text_kernel.proofs.Unbroken.{Unbroken, unbroken_left, unbroken_right}
@@ -29,6 +30,7 @@ use Rattle.forec_kernel.specs.WellFormed.{pars_of}
 use Rattle.text_kernel.proofs.Grown.{IsGrown, grows, list_grows, perhaps_grows}
 use Rattle.text_kernel.proofs.Forks.{threads_grow, at, blank_made}
 use Rattle.text_kernel.proofs.Rises.{rises, list_rises, perhaps_rises}
+use Rattle.text_kernel.proofs.Certain.{thread_only}
 
 -- threads that are added stand in the kernel from a number on
 pub record Sits (k : PlainKernel) (m : ℕ) (a : List Made) : Type 0 where
@@ -110,10 +112,6 @@ module _
 
   synchronous : (place : Place) (fs : List Finding) → findings_faults j (Synchronous place ∷ fs) ≡ [] → j.gives ≡ false
   synchronous place fs h = not_broken j.gives place 12 (none_left (fault_if j.gives place 12) (findings_faults j fs) h)
-
-  thread_only : (b : Bool) → b ≡ false → IsTrue (cond b false true)
-  thread_only true e = cc
-  thread_only false e = refl
 
   giving : (place : Place) (fs : List Finding) → findings_faults j (Gives place ∷ fs) ≡ [] → j.gives ≡ true
   giving place fs h = not_not j.gives (not_broken (not j.gives) place 14 (none_left (fault_if (not j.gives) place 14) (findings_faults j fs) h))
@@ -227,10 +225,7 @@ module _
         let sc1 = inner_scope sc in
         let sc2 = after_perhaps sc1 start in
         let sc3 = after_perhaps sc2 step in
-        let s2 = scope_after_perhaps text s n.slot start in
-        let i = lower_perhaps text called t s n start in
-        let d = lower_perhaps text called t s2 i.next step in
-        let s3 = scope_after_perhaps text s2 i.next.slot step in
+        let parts = for_parts text called t s n start step in
         let r4 = in_perhaps text sc2 step ++ in_statement text (inner_scope sc3) body in
         let r3 = in_optional text sc2 test ++ r4 in
         let r2 = in_perhaps text sc1 start ++ r3 in
@@ -240,23 +235,23 @@ module _
         let h3 = unbroken_right text j (in_perhaps text sc1 start) r3 h2 in
         let h4 = unbroken_right text j (in_optional text sc2 test) r4 h3 in
         let hd = unbroken_left text j (in_perhaps text sc2 step) (in_statement text (inner_scope sc3) body) h4 in
-        let lb = rises text called up t s3 d.next body in
-        let ld = perhaps_rises text called up t s2 i.next step in
-        let low_d : d.next.slot ≤ words = omega (arith, lb, l) in
-        let low_i : i.next.slot ≤ words = omega (arith, ld, low_d) in
+        let lb = rises text called up t parts.inside parts.stepped.next body in
+        let ld = perhaps_rises text called up t parts.tested parts.started.next step in
+        let low_d : parts.stepped.next.slot ≤ words = omega (arith, lb, l) in
+        let low_i : parts.started.next.slot ≤ words = omega (arith, ld, low_d) in
         let m1 = entered_matches sc s m in
         let m2 = perhaps_matches sc1 s n t start m1 hs.rules low_i in
-        let m3 = perhaps_matches sc2 s2 i.next t step m2 hd.rules low_d in
-        let last = lower_statement text called t s3 d.next body in
+        let m3 = perhaps_matches sc2 parts.tested parts.started.next t step m2 hd.rules low_d in
+        let last = lower_statement text called t parts.inside parts.stepped.next body in
         let long_i = threads_grow (perhaps_grows text called right t s n start).grown in
-        let long_d = threads_grow (perhaps_grows text called right t s2 i.next step).grown in
-        let z2 = right_if j.gives k n.thread i.next.thread i.made (d.made ++ last.made) long_i z in
-        let fb = fine t s3 d.next (inner_scope sc3) body (entered_matches sc3 s3 m3) (unbroken_right text j (in_perhaps text sc2 step) (in_statement text (inner_scope sc3) body) h4) l
-        (right_if j.gives k i.next.thread d.next.thread d.made last.made long_d z2) in
-        start_fine start i.stmt _ (perhaps_fine t s n sc1 start m1 hs low_i (left_if j.gives k n.thread i.made (d.made ++ last.made) z)) (
+        let long_d = threads_grow (perhaps_grows text called right t parts.tested parts.started.next step).grown in
+        let z2 = right_if j.gives k n.thread parts.started.next.thread parts.started.made (parts.stepped.made ++ last.made) long_i z in
+        let fb = fine t parts.inside parts.stepped.next (inner_scope sc3) body (entered_matches sc3 parts.inside m3) (unbroken_right text j (in_perhaps text sc2 step) (in_statement text (inner_scope sc3) body) h4) l
+        (right_if j.gives k parts.started.next.thread parts.stepped.next.thread parts.stepped.made last.made long_d z2) in
+        start_fine start parts.started.stmt _ (perhaps_fine t s n sc1 start m1 hs low_i (left_if j.gives k n.thread parts.started.made (parts.stepped.made ++ last.made) z)) (
           for_ok sc at start test step bound body h,
-          optional_fine sc2 s2 test m2 (parts_left j (in_optional text sc2 test) r4 h3.rules),
-          step_fine step _ d.stmt fb (perhaps_fine t s2 i.next sc2 step m2 hd low_d (left_if j.gives k i.next.thread d.made last.made z2)),
+          optional_fine sc2 parts.tested test m2 (parts_left j (in_optional text sc2 test) r4 h3.rules),
+          step_fine step _ parts.stepped.stmt fb (perhaps_fine t parts.tested parts.started.next sc2 step m2 hd low_d (left_if j.gives k parts.started.next.thread parts.stepped.made last.made z2)),
         )
     fine t s n sc (Pause at) m h l z = thread_only j.gives (synchronous at [] h.rules)
     fine t s n sc (Par at bs) m h l z =

@@ -21,7 +21,7 @@ abbrev pub how_many : (PlainItem → Bool) → Text → ℕ
 how_many sort [] = 0
 how_many sort (i ∷ rest) = cond (sort i) (suc (how_many sort rest)) (how_many sort rest)
 
-same_id : (i : PlainItem) → item_id i ≡ (name_of i).id
+pub same_id : (i : PlainItem) → item_id i ≡ (name_of i).id
 same_id (IsGlobal g) = refl
 same_id (IsFunction f) = refl
 

@@ -1,9 +1,11 @@
+pub mod ForParts
 pub mod Grown
 pub mod Forks
 pub mod Owned
 pub mod Placed
 pub mod Covered
 pub mod Fields
+pub mod SameGlobal
 pub mod VariableNumbers
 pub mod VariableItems
 pub mod Fine

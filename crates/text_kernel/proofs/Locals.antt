@@ -1,5 +1,5 @@
 -- Declared locals of a text without faults are in range, and their names go on to match.
-use Rattle.std.proofs.Common.{ℕ, suc, ◌+◌, ◌<◌, ◌≤◌, ◌≡◌, ◌∙◌, sym, ap, refl, Bool, false, cond, ℤ, pos, negsuc, Option, Some, None, List, [], ◌∷◌, ◌++◌, append_assoc, subst, arith, ⊎_elim, ◌⊎◌, inl, inr}
+use Rattle.std.proofs.Common.{ℕ, suc, ◌+◌, ◌<◌, ◌≤◌, ◌≡◌, ◌∙◌, sym, ap, refl, Bool, false, cond, ℤ, pos, negsuc, Option, Some, None, List, [], ◌∷◌, ◌++◌, append_assoc, subst, arith, ⊎_elim, ◌⊎◌, inl, inr, map}
 use Rattle.std.proofs.lemmas.Bool.Decides.{nat_tests}
 use Rattle.std.proofs.lemmas.List.{map-append}
 use Rattle.std.specs.Int.{cast_unsigned, w32}
@@ -59,9 +59,10 @@ member_last x y [] (later h) = elim h [ ]
 member_last x y (z ∷ s) here = inl here
 member_last x y (z ∷ s) (later h) = ⊎_elim (λ k. inl (later k)) (λ e. inr e) (member_last x y s h)
 
-pub matches_more : (words : ℕ) (sc : Scope) (s : List Slot) (x : Slot) (array : Bool) → has_size x.size ≡ array → Matches words sc s → GoodSlot words x → is_among x.id sc.here ≡ false →
-    Matches words (with_name sc x.id array) (s ++ x ∷ [])
-matches_more words sc s x array a m g e = subst (λ t. Matches words t (s ++ x ∷ [])) (sym added) more
+-- what is seen of the slots with one more, whose name the block has not declared
+pub seen_more : (sc : Scope) (s : List Slot) (x : Slot) (array : Bool) → has_size x.size ≡ array → map seen_of s ≡ sc.outer ++ sc.here → is_among x.id sc.here ≡ false →
+    map seen_of (s ++ x ∷ []) ≡ (with_name sc x.id array).outer ++ (with_name sc x.id array).here
+seen_more sc s x array a m e = more ∙ ap (λ (z : Scope). z.outer ++ z.here) (sym added)
   where
     next_scope : Scope
     next_scope = record { outer = sc.outer; here = sc.here ++ record { id = x.id; array = array } ∷ [] }
@@ -69,15 +70,19 @@ matches_more words sc s x array a m g e = subst (λ t. Matches words t (s ++ x �
     added : with_name sc x.id array ≡ next_scope
     added = ap (λ b. cond b sc next_scope) e
 
-    more : Matches words next_scope (s ++ x ∷ [])
+    more : map seen_of (s ++ x ∷ []) ≡ sc.outer ++ (sc.here ++ record { id = x.id; array = array } ∷ [])
     more =
-        record {
-          same =
-              map-append seen_of s (x ∷ [])
-              ∙ (ap (λ l. l ++ record { id = x.id; array = has_size x.size } ∷ []) m.same
-              ∙ (ap (λ b. (sc.outer ++ sc.here) ++ record { id = x.id; array = b } ∷ []) a ∙ append_assoc sc.outer sc.here (record { id = x.id; array = array } ∷ [])));
-          good = λ y h. ⊎_elim (λ k. m.good y k) (λ d. subst (GoodSlot words) (sym d) g) (member_last y x s h);
-        }
+        map-append seen_of s (x ∷ [])
+        ∙ (ap (λ l. l ++ record { id = x.id; array = has_size x.size } ∷ []) m
+        ∙ (ap (λ b. (sc.outer ++ sc.here) ++ record { id = x.id; array = b } ∷ []) a ∙ append_assoc sc.outer sc.here (record { id = x.id; array = array } ∷ [])))
+
+pub matches_more : (words : ℕ) (sc : Scope) (s : List Slot) (x : Slot) (array : Bool) → has_size x.size ≡ array → Matches words sc s → GoodSlot words x → is_among x.id sc.here ≡ false →
+    Matches words (with_name sc x.id array) (s ++ x ∷ [])
+matches_more words sc s x array a m g e =
+    record {
+      same = seen_more sc s x array a m.same e;
+      good = λ y h. ⊎_elim (λ k. m.good y k) (λ d. subst (GoodSlot words) (sym d) g) (member_last y x s h);
+    }
 
 module _ (text : Text) (k : PlainKernel) (words : ℕ) (uses : List ℕ) (j : Judging) (knows : Knows text k uses j.gives) (called : ℕ → Inlined) where
   abbrev scope : wf.TermScope

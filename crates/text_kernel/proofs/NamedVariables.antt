@@ -1,7 +1,6 @@
 -- A variable stands in lowered text where the rules say that the text names it.
 use Rattle.std.proofs.Common.{ℕ, suc, ◌+◌, ◌<◌, ◌≡◌, ◌∙◌, sym, ap, refl, subst, Bool, true, false, cond, not, ◌==◌, ◌||◌, Option, Some, None, List, [], ◌∷◌, ◌++◌, append-nil, append_assoc, map, arith}
-use Rattle.std.proofs.lemmas.Bool.Decides.{nat_tests}
-use Rattle.std.proofs.lemmas.List.{map-append}
+use Rattle.std.proofs.Math.Bool.{or_comm, or_self_left}
 use Rattle.std.specs.Prelude.{IsTrue}
 use Rattle.forec_base.specs.declared.Place.{Place}
 use Rattle.forec_tree.specs.declared.tree.Name.{Name}
@@ -30,9 +29,8 @@ use Rattle.text_kernel.specs.Bindings.{number_among, variable_number, number_of,
 use Rattle.text_kernel.specs.Lowering.{stands, lower_term, lower_terms, read_as, element_as, assign_to, assign_at, lower_target, sequence, ends_with, array_values, lower_local, lower_locals, set_params, optional_test, vars_in, vars_all, vars_of, vars_list}
 use Rattle.text_kernel.proofs.OneValue.{one_value, OneValues}
 use Rattle.text_kernel.proofs.Fine.{none_left, none_right, not_broken, parts_left, parts_right, GoodUse, good_use, seen_of, seen_option, has_size, found}
-use Rattle.text_kernel.proofs.Locals.{seen_size}
-use Rattle.text_kernel.proofs.VariableNumbers.{First, in_row, row_of, width_of, apart}
-use Rattle.text_kernel.proofs.Known.{first_of, first_id}
+use Rattle.text_kernel.proofs.Locals.{seen_size, seen_more}
+use Rattle.text_kernel.proofs.SameGlobal.{constant_other, row_same}
 
 -- ---- lists
 
@@ -44,22 +42,12 @@ in_append x (y ∷ a) b = pick (y == x) (in_append x a b)
     pick true e = refl
     pick false e = e
 
-or_twice : (a b : Bool) → (a || (a || b)) ≡ (a || b)
-or_twice true b = refl
-or_twice false b = refl
-
-or_other : (a b : Bool) → (a || b) ≡ (b || a)
-or_other true true = refl
-or_other true false = refl
-or_other false true = refl
-or_other false false = refl
-
 twice_in : (x : ℕ) (a b : List ℕ) → is_in x (a ++ (a ++ b)) ≡ is_in x (a ++ b)
-twice_in x a b = in_append x a (a ++ b) ∙ (ap (λ t. is_in x a || t) (in_append x a b) ∙ (or_twice (is_in x a) (is_in x b) ∙ sym (in_append x a b)))
+twice_in x a b = in_append x a (a ++ b) ∙ (ap (λ t. is_in x a || t) (in_append x a b) ∙ (or_self_left (is_in x a) (is_in x b) ∙ sym (in_append x a b)))
 
 pub swapped_in : (x : ℕ) (a b : List ℕ) → is_in x (a ++ (b ++ [])) ≡ is_in x (b ++ a)
 swapped_in x a b =
-    ap (λ l. is_in x (a ++ l)) (append-nil b) ∙ (in_append x a b ∙ (or_other (is_in x a) (is_in x b) ∙ sym (in_append x b a)))
+    ap (λ l. is_in x (a ++ l)) (append-nil b) ∙ (in_append x a b ∙ (or_comm (is_in x a) (is_in x b) ∙ sym (in_append x b a)))
 
 pub globals_append : (xs ys : List Finding) → globals_in (xs ++ ys) ≡ globals_in xs ++ globals_in ys
 globals_append [] ys = refl
@@ -91,22 +79,7 @@ pub record Agree (sc : Scope) (s : List Slot) : Type 0 where
 
 pub agree_more : (sc : Scope) (s : List Slot) (x : Slot) (array : Bool) → Agree sc s → has_size x.size ≡ array → is_among x.id sc.here ≡ false →
     Agree (with_name sc x.id array) (s ++ x ∷ [])
-agree_more sc s x array m a e = subst (λ z. Agree z (s ++ x ∷ [])) (sym added) more
-  where
-    next_scope : Scope
-    next_scope = record { outer = sc.outer; here = sc.here ++ record { id = x.id; array = array } ∷ [] }
-
-    added : with_name sc x.id array ≡ next_scope
-    added = ap (λ b. cond b sc next_scope) e
-
-    more : Agree next_scope (s ++ x ∷ [])
-    more =
-        record {
-          same =
-              map-append seen_of s (x ∷ [])
-              ∙ (ap (λ l. l ++ record { id = x.id; array = has_size x.size } ∷ []) m.same
-              ∙ (ap (λ b. (sc.outer ++ sc.here) ++ record { id = x.id; array = b } ∷ []) a ∙ append_assoc sc.outer sc.here (record { id = x.id; array = array } ∷ [])));
-        }
+agree_more sc s x array m a e = record { same = seen_more sc s x array a m.same e }
 
 -- ---- tests
 
@@ -142,49 +115,6 @@ module _ (text : Text) (j : Judging) (g : PlainGlobal) (is_item : find_item g.na
 
   pub same_found : (a b : List ℕ) (xs ys : List Finding) → Same a (globals_in xs) → Same b (globals_in ys) → Same (a ++ b) (globals_in (xs ++ ys))
   same_found a b xs ys h k = subst (λ l. Same (a ++ b) l) (sym (globals_append xs ys)) (same_append a b (globals_in xs) (globals_in ys) h k)
-
-  constant_other : (id : ℕ) (h : PlainGlobal) → find_item id text ≡ Some (IsGlobal h) → is_constant h.kind ≡ true → (id == i) ≡ false
-  constant_other id h e c = pick (id == i) refl
-    where
-      pick : (b : Bool) → (id == i) ≡ b → b ≡ false
-      pick false d = refl
-      pick true d =
-          let is : id ≡ i = grind (arith, nat_tests) in
-          let one : Some (IsGlobal h) ≡ Some (IsGlobal g) = sym e ∙ (ap (λ n. find_item n text) is ∙ is_item) in
-          let same : h ≡ g = cc in
-          let bad : true ≡ false = sym c ∙ (ap (λ (x : PlainGlobal). is_constant x.kind) same ∙ changes) in cc
-
-  -- a global's row has the number exactly where it is this global
-  row_same : (id : ℕ) (h : PlainGlobal) → find_item id text ≡ Some (IsGlobal h) → is_constant h.kind ≡ false →
-      is_in v (count_up (variable_number h.name.id text) (width h)) ≡ (id == i)
-  row_same id h e c = pick (is_in v (count_up (variable_number h.name.id text) (width h))) (id == i) refl refl
-    where
-      there : First id (IsGlobal h) text
-      there = first_of id (IsGlobal h) text e
-
-      named : h.name.id ≡ id
-      named = first_id id (IsGlobal h) text there
-
-      pick : (a b : Bool) → is_in v (count_up (variable_number h.name.id text) (width h)) ≡ a → (id == i) ≡ b → a ≡ b
-      pick true true d f = refl
-      pick false false d f = refl
-      pick true false d f =
-          let row = row_of v (variable_number h.name.id text) (width h) d in
-          let low = row.low in
-          let high = row.high in
-          let moved = ap (λ n. variable_number n text) named in
-          let wide = width_of h c in
-          let own = width_of g changes in
-          let same : id ≡ i =
-          apart id i nth (IsGlobal h) (IsGlobal g) text there (first_of i (IsGlobal g) text is_item) (omega (arith, is_one, own))
-          (record { low = omega (arith, low, moved); high = omega (arith, high, moved, wide) }) in
-          let bad : (id == i) ≡ true = grind (arith, nat_tests) in cc
-      pick false true d f =
-          let is : id ≡ i = grind (arith, nat_tests) in
-          let one : Some (IsGlobal h) ≡ Some (IsGlobal g) = sym e ∙ (ap (λ n. find_item n text) is ∙ is_item) in
-          let same : h ≡ g = cc in
-          let found_ : is_in v (count_up (variable_number h.name.id text) (width h)) ≡ true =
-          ap (λ (x : PlainGlobal). is_in v (count_up (variable_number x.name.id text) (width x))) same ∙ in_row v (variable_number g.name.id text) (width g) (omega arith) (omega (arith, is_one)) in cc
 
   -- such a row in front of the rest of a use
   row_then : (row vs gs : List ℕ) (id : ℕ) → is_in v row ≡ (id == i) → Same vs gs → Same (row ++ vs) (id ∷ gs)
@@ -238,8 +168,8 @@ module _ (text : Text) (j : Judging) (g : PlainGlobal) (is_item : find_item g.na
 
   global_read : (name : Name) (h : PlainGlobal) (b : Bool) → find_item name.id text ≡ Some (IsGlobal h) → is_constant h.kind ≡ b → not (is_array (stated_length h)) ≡ true →
       Same (vars_in (read_as (cond b (constant_stands text h) (variable_stands text h)))) (name.id ∷ [])
-  global_read name h true e c a = ap (is_in v) (constant_read h h.length) ∙ sym (ap (λ b. cond b true false) (constant_other name.id h e c))
-  global_read name h false e c a = ap (is_in v) (variable_read (variable_number h.name.id text) (stated_length h) a) ∙ (row_same name.id h e c ∙ sym (said (name.id == i)))
+  global_read name h true e c a = ap (is_in v) (constant_read h h.length) ∙ sym (ap (λ b. cond b true false) (constant_other text g is_item changes name.id h e c))
+  global_read name h false e c a = ap (is_in v) (variable_read (variable_number h.name.id text) (stated_length h) a) ∙ (row_same text g is_item changes nth is_one name.id h e c ∙ sym (said (name.id == i)))
 
   name_read : (name : Name) (o : Option Slot) (it : Option PlainItem) → find_item name.id text ≡ it → GoodUse j.gives Reads (local_meaning (seen_option o) (item_meaning it)) →
       Same (vars_in (read_as (elim o [ Some s ↦ slot_stands s | None ↦ item_stands text it ]))) (globals_in (Use Reads name (local_meaning (seen_option o) (item_meaning it)) ∷ []))
@@ -265,10 +195,10 @@ module _ (text : Text) (j : Judging) (g : PlainGlobal) (is_item : find_item g.na
   global_element : (name : Name) (h : PlainGlobal) (b : Bool) (e : Expr) (place : Place) (gs : List ℕ) → find_item name.id text ≡ Some (IsGlobal h) → is_constant h.kind ≡ b →
       is_array (stated_length h) ≡ true → Same (vars_in e) gs → Same (vars_in (element_as (cond b (constant_stands text h) (variable_stands text h)) e place)) (name.id ∷ gs)
   global_element name h true e place gs f c a k =
-      ap (is_in v) (constant_element h h.length e place) ∙ (k ∙ sym (ap (λ b. cond b true (is_in i gs)) (constant_other name.id h f c)))
+      ap (is_in v) (constant_element h h.length e place) ∙ (k ∙ sym (ap (λ b. cond b true (is_in i gs)) (constant_other text g is_item changes name.id h f c)))
   global_element name h false e place gs f c a k =
       ap (is_in v) (variable_element (variable_number h.name.id text) (stated_length h) e place a)
-      ∙ row_then (count_up (variable_number h.name.id text) (width h)) (vars_in e) gs name.id (row_same name.id h f c) k
+      ∙ row_then (count_up (variable_number h.name.id text) (width h)) (vars_in e) gs name.id (row_same text g is_item changes nth is_one name.id h f c) k
 
   name_element : (name : Name) (o : Option Slot) (it : Option PlainItem) (e : Expr) (place : Place) (fs : List Finding) → find_item name.id text ≡ it →
       GoodUse j.gives Indexes (local_meaning (seen_option o) (item_meaning it)) → Same (vars_in e) (globals_in fs) →
@@ -365,7 +295,7 @@ module _ (text : Text) (j : Judging) (g : PlainGlobal) (is_item : find_item g.na
       is_constant h.kind ≡ false → not (is_array (stated_length h)) ≡ true → Same (vars_in value) gs →
       Same (vars_of (assign_to (cond b (constant_stands text h) (variable_stands text h)) op value)) (name.id ∷ gs)
   global_write name h true op value gs e c d a k = cc
-  global_write name h false op value gs e c d a k = variable_to (variable_number h.name.id text) name.id (stated_length h) op value gs a (row_same name.id h e c) k
+  global_write name h false op value gs e c d a k = variable_to (variable_number h.name.id text) name.id (stated_length h) op value gs a (row_same text g is_item changes nth is_one name.id h e c) k
 
   name_write : (name : Name) (o : Option Slot) (it : Option PlainItem) (op : Option OpAt) (value : Expr) (fs : List Finding) → find_item name.id text ≡ it →
       GoodUse j.gives Writes (local_meaning (seen_option o) (item_meaning it)) → Same (vars_in value) (globals_in fs) →
@@ -408,7 +338,7 @@ module _ (text : Text) (j : Judging) (g : PlainGlobal) (is_item : find_item g.na
       Same (vars_of (assign_at (cond b (constant_stands text h) (variable_stands text h)) op k value place)) (name.id ∷ gs)
   global_to_at name h true op k value place gs e c d a s = cc
   global_to_at name h false op k value place gs e c d a s =
-      variable_to_at (variable_number h.name.id text) name.id (stated_length h) op k value place gs a (row_same name.id h e c) s
+      variable_to_at (variable_number h.name.id text) name.id (stated_length h) op k value place gs a (row_same text g is_item changes nth is_one name.id h e c) s
 
   name_to_at : (name : Name) (o : Option Slot) (it : Option PlainItem) (op : Option OpAt) (k value : Expr) (place : Place) (fs : List Finding) → find_item name.id text ≡ it →
       GoodUse j.gives WritesAt (local_meaning (seen_option o) (item_meaning it)) → Same (vars_in k ++ vars_in value) (globals_in fs) →

@@ -2,16 +2,10 @@
 use Rattle.std.proofs.Common.{ℕ, zero, suc, ◌-◌, ◌<◌, ◌≤◌, ◌≡◌, ◌∙◌, ◌==◌, sym, ap, refl, ⊎_elim, Bool, true, false, cond, ◌||◌, List, [], ◌∷◌, length, subst, arith}
 use Rattle.std.proofs.lemmas.Bool.{cases_lt, eqb-true, or_left, or_right}
 use Rattle.forec_tree.specs.Faults.{is_in, Leads, at_once}
+use Rattle.forec_tree.proofs.Agrees.{in_head, in_tail}
 use Rattle.forec_tree.proofs.Reach.{count}
+use Rattle.loop_check.proofs.IndexLemmas.{split}
 use Rattle.loop_check.proofs.Settled.{circle}
-
-split : {P : Type 0} (b : Bool) → (b ≡ true → P) → (b ≡ false → P) → P
-split true f g = f refl
-split false f g = g refl
-
-clash : {P : Type 0} (b : Bool) → b ≡ true → b ≡ false → P
-clash true h g = cc
-clash false h g = cc
 
 -- one of some numbers is among others
 abbrev some_in : List ℕ → List ℕ → Bool
@@ -23,18 +17,12 @@ record Both (gs xs : List ℕ) : Type 0 where
   first : is_in number gs ≡ true
   second : is_in number xs ≡ true
 
-is_in_tail : (g x : ℕ) (xs : List ℕ) → is_in g xs ≡ true → is_in g (x ∷ xs) ≡ true
-is_in_tail g x xs h = elim (x == g) as (λ b. cond b true (is_in g xs) ≡ true) [ true ↦ refl | false ↦ h ]
-
-is_in_head : (g : ℕ) (xs : List ℕ) → is_in g (g ∷ xs) ≡ true
-is_in_head g xs = let e : (g == g) ≡ true = grind arith in ap (λ b. cond b true (is_in g xs)) e
-
 some_which : (gs xs : List ℕ) → some_in gs xs ≡ true → Both gs xs
 some_which [] xs h = cc
 some_which (g ∷ gs) xs h =
     let rest = some_which gs xs in
-    split (is_in g xs) (λ e. record { number = g; first = is_in_head g gs; second = e })
-    (λ e. let r = rest (sym (ap (λ b. b || some_in gs xs) e) ∙ h) in record { number = r.number; first = is_in_tail r.number g gs r.first; second = r.second })
+    split (is_in g xs) (λ e. record { number = g; first = in_head g gs; second = e })
+    (λ e. let r = rest (sym (ap (λ b. b || some_in gs xs) e) ∙ h) in record { number = r.number; first = in_tail r.number g gs r.first; second = r.second })
 
 some_when : (g : ℕ) (gs xs : List ℕ) → is_in g gs ≡ true → is_in g xs ≡ true → some_in gs xs ≡ true
 some_when g [] xs h k = cc
@@ -66,7 +54,7 @@ module _ (calls : ℕ → List ℕ) where
       ap (λ b. is_in f (cond b (g ∷ keep xs fs) (keep xs fs))) t ∙ ap (λ b. cond b true (is_in f (keep xs fs))) e)
       (λ e.
       let r = rest (sym (ap (λ b. cond b true (is_in f fs)) e) ∙ h) s in
-      elim (some_in (calls g) xs) as (λ b. is_in f (cond b (g ∷ keep xs fs) (keep xs fs)) ≡ true) [ true ↦ is_in_tail f g (keep xs fs) r | false ↦ r ])
+      elim (some_in (calls g) xs) as (λ b. is_in f (cond b (g ∷ keep xs fs) (keep xs fs)) ≡ true) [ true ↦ in_tail f g (keep xs fs) r | false ↦ r ])
 
   was_kept : (xs fs : List ℕ) (f : ℕ) → is_in f (keep xs fs) ≡ true → is_in f fs ≡ true
   was_kept xs [] f h = h
@@ -77,7 +65,7 @@ module _ (calls : ℕ → List ℕ) where
       let inner : is_in f (keep xs fs) ≡ true = split (some_in (calls g) xs)
       (λ t. sym (ap (λ b. cond b true (is_in f (keep xs fs))) e) ∙ (sym (ap (λ b. is_in f (cond b (g ∷ keep xs fs) (keep xs fs))) t) ∙ h))
       (λ t. sym (ap (λ b. is_in f (cond b (g ∷ keep xs fs) (keep xs fs))) t) ∙ h) in
-      is_in_tail f g fs (rest inner))
+      in_tail f g fs (rest inner))
 
   keep_short : (xs fs : List ℕ) → length (keep xs fs) ≤ length fs
   keep_short xs [] = omega arith

@@ -1,5 +1,6 @@
 -- The kernel's body of an int function returns where its text does (rule 15).
 use Rattle.std.proofs.Common.{ℕ, ◌≡◌, ◌∙◌, sym, refl, List, Bool, true, false, ◌||◌}
+use Rattle.std.proofs.Math.Bool.{or-false}
 use Rattle.std.proofs.lemmas.Bool.{and_from, and_parts, or_left, or_right}
 use Rattle.forec_tree.specs.Terms.{Statement, Declare, Nothing, Group, Assign, Invoke, If, While, For, Pause, Par, Abort, Return, Statements, no_statements, more_statements, Perhaps, absent, present, Text}
 use Rattle.forec_tree.specs.Rules as rule
@@ -8,13 +9,9 @@ use Rattle.forec_kernel.specs.WellFormed.{returns, some_returns}
 use Rattle.text_kernel.specs.declared.names.Slot.{Slot}
 use Rattle.text_kernel.specs.Lowering.{sequence, lower_statement, lower_list, lower_perhaps, scope_after, NextNumbers, Inlined}
 
-or_none : (b : Bool) → (b || false) ≡ b
-or_none true = refl
-or_none false = refl
-
 pub sequence_returns : (list : Stmts) → returns (sequence list) ≡ some_returns list
 sequence_returns no_stmts = refl
-sequence_returns (more_stmts a no_stmts) = sym (or_none (returns a))
+sequence_returns (more_stmts a no_stmts) = sym (or-false (returns a))
 sequence_returns (more_stmts a (more_stmts b rest)) = refl
 
 either : (x y u v : Bool) → (x || y) ≡ true → (x ≡ true → u ≡ true) → (y ≡ true → v ≡ true) → (u || v) ≡ true

@@ -1,5 +1,6 @@
 -- A void function that is put in place, in a thread of a text without faults, is in range: by induction on the number of calls that are left.
-use Rattle.std.proofs.Common.{ℕ, zero, suc, ◌+◌, ◌≤◌, ◌≡◌, sym, refl, Bool, true, false, not, ◌==◌, Option, Some, None, List, [], ◌∷◌, ◌++◌, append-nil, append_assoc, length, subst, arith}
+use Rattle.std.proofs.Common.{ℕ, zero, suc, ◌+◌, ◌≤◌, ◌≡◌, sym, refl, Bool, false, not, ◌==◌, Option, Some, None, List, [], ◌∷◌, ◌++◌, append-nil, append_assoc, length, subst, arith}
+use Rattle.std.proofs.lemmas.Bool.{not-true}
 use Rattle.std.proofs.lemmas.Bool.Decides.{nat_tests}
 use Rattle.forec_tree.specs.declared.tree.Name.{Name}
 use Rattle.forec_tree.specs.declared.uses.Seen.{Seen}
@@ -42,10 +43,6 @@ pub record Runnable (n : ℕ) (f : PlainFunction) : Type 0 where
   pub void : f.gives ≡ false
   pub params : length f.params ≡ n
 
-turn : (b : Bool) → not b ≡ true → b ≡ false
-turn true h = cc
-turn false h = refl
-
 right_count : (n m : ℕ) → not (n == m) ≡ false → m ≡ n
 right_count n m h = grind (arith, nat_tests)
 
@@ -55,7 +52,7 @@ runnable gives n (Some x) i u f e = let bad = u.fits in cc
 runnable gives n None None u f e = cc
 runnable gives n None (Some (IsGlobal g)) u f e = cc
 runnable gives n None (Some (IsFunction h)) u f e =
-    let same : h ≡ f = cc in subst (Runnable n) same (record { void = turn h.gives u.fits; params = right_count n (length h.params) u.counts })
+    let same : h ≡ f = cc in subst (Runnable n) same (record { void = not-true h.gives u.fits; params = right_count n (length h.params) u.counts })
 
 -- the same of a branch
 pub startable : (gives : Bool) (n : ℕ) (o : Option Seen) (i : Option PlainItem) → GoodUse gives (Starts n) (local_meaning o (item_meaning i)) →
@@ -64,7 +61,7 @@ startable gives n (Some x) i u f e = let bad = u.fits in cc
 startable gives n None None u f e = cc
 startable gives n None (Some (IsGlobal g)) u f e = cc
 startable gives n None (Some (IsFunction h)) u f e =
-    let same : h ≡ f = cc in subst (Runnable n) same (record { void = turn h.gives u.fits; params = right_count n (length h.params) u.counts })
+    let same : h ≡ f = cc in subst (Runnable n) same (record { void = not-true h.gives u.fits; params = right_count n (length h.params) u.counts })
 
 module _ (text : Text) (k : PlainKernel) (words : ℕ) (uses : List ℕ) (names : List (List ℕ)) (knows : Knows text k uses false)
     (faultless : (id : ℕ) (f : PlainFunction) → find_function id text ≡ Some f → f.gives ≡ false → findings_faults (record { names = names; gives = false }) (in_function text f) ≡ []) where

@@ -9,7 +9,7 @@ pub record Unbroken (text : Text) (j : Judging) (fs : List Finding) : Type 0 whe
   pub rules : findings_faults j fs ≡ []
   pub loops : j.gives ≡ true → loop_faults text fs ≡ []
 
-loops_append : (text : Text) (xs ys : List Finding) → loop_faults text (xs ++ ys) ≡ loop_faults text xs ++ loop_faults text ys
+pub loops_append : (text : Text) (xs ys : List Finding) → loop_faults text (xs ++ ys) ≡ loop_faults text xs ++ loop_faults text ys
 loops_append text [] ys = refl
 loops_append text (Loop x ∷ xs) ys =
     let here = fault_if (endless text x) (loop_place x) 20 in

@@ -3,6 +3,7 @@ use Rattle.std.proofs.Common.{ℕ, zero, suc, ◌≡◌, ◌∙◌, sym, ap, ref
 use Rattle.std.proofs.lemmas.Bool.{and_from, and_parts}
 use Rattle.std.proofs.lemmas.Bool.Decides.{nat_tests}
 use Rattle.forec_tree.specs.Faults.{is_in}
+use Rattle.forec_tree.proofs.Agrees.{in_left, in_right}
 use Rattle.forec_kernel.specs.declared.terms.Spot.{Spot}
 use Rattle.forec_kernel.specs.declared.terms.Spot.TheVariants as spot
 use Rattle.forec_kernel.specs.Combining.{contains}
@@ -12,7 +13,6 @@ use Rattle.forec_kernel.specs.WellFormed as wf
 use Rattle.forec_kernel.specs.WellFormed.{FineExpr, FineExprs, FineSpot, FineStmt, FineStmts, FineBranch, FineBranches, IsArray, IsSharedArray, count_up, all_in}
 use Rattle.text_kernel.specs.Lowering.{vars_in, vars_all, vars_spot, vars_of, vars_list, vars_launches}
 use Rattle.text_kernel.specs.Kernels.{filter_in}
-use Rattle.text_kernel.proofs.Covered.{in_left, in_right}
 
 -- those variables of a list that are among all are among some
 pub record Holds (xs all uses : List ℕ) : Type 0 where

@@ -1,19 +1,19 @@
 -- The kernel of a text that breaks no rule and is within the limits meets the condition of kernels.
-use Rattle.std.proofs.Common.{ℕ, zero, suc, ◌<◌, ◌≤◌, ◌≡◌, ◌∙◌, sym, ap, refl, IsTrue, true, false, Some, None, List, [], ◌∷◌, ◌++◌, length, map, subst, arith}
+use Rattle.std.proofs.Common.{ℕ, zero, suc, ◌<◌, ◌≤◌, ◌≡◌, ◌∙◌, sym, ap, refl, IsTrue, true, false, Some, None, List, [], ◌∷◌, ◌++◌, length, subst, arith}
 use Rattle.forec_tree.specs.Terms.{Text, PlainFunction}
 use Rattle.forec_tree.specs.Pauses.{find_function}
 use Rattle.forec_tree.specs.Faults.{is_in}
+use Rattle.forec_tree.proofs.Agrees.{in_left}
 use Rattle.forec_kernel.specs.Shapes.{PlainKernel, PlainThread}
-use Rattle.forec_kernel.specs.Texts.{words_in, words_of, uses_of, body_of}
+use Rattle.forec_kernel.specs.Texts.{words_of, uses_of, body_of}
 use Rattle.forec_kernel.specs.WellFormed.{FineStmt, FineThread, WellFormed, thread_of, count_up, ascends}
 use Rattle.forec_check.specs.Faultless.{Faultless}
 use Rattle.text_kernel.specs.Lowering.{Made, vars_of, vars_made}
-use Rattle.text_kernel.specs.Kernels.{kernel_of, root, main_id, thread_shape, variable_count, filter_in}
+use Rattle.text_kernel.specs.Kernels.{kernel_of, root, main_id, variable_count, filter_in}
 use Rattle.text_kernel.specs.Limits.{WithinLimits}
 use Rattle.text_kernel.proofs.Grown.{Grown, nothing, both, fork, turned, Branching, branch, Row, no_row, more_row, Fork}
 use Rattle.text_kernel.proofs.Forks.{at, SplitIndex, left, right, place_of}
 use Rattle.text_kernel.proofs.Placed.{root_grown}
-use Rattle.text_kernel.proofs.Covered.{in_left}
 use Rattle.text_kernel.proofs.Fields as fields
 use Rattle.text_kernel.proofs.Counting.{rising_ascends, filter_rises, Rising, ends, goes, names_each, inputs_once, outputs_once, inputs_named, outputs_named}
 use Rattle.text_kernel.proofs.Within as within
@@ -81,15 +81,6 @@ module _ (text : Text) (names : List (List ℕ)) (clean : Clean text names) wher
   pub made_fine : AllFine k all (root text names).made
   made_fine = below text k all names (known_thread text names clean) (void_clean text names clean) (length text) 0 0 0 (main_id text names) (record { slot = 0; thread = 1; par = 0 }) main_runs (root_sits text names)
 
-  words_made : (i : ℕ) → i < length (root text names).made → words_of k (suc i) ≡ (at (root text names).made i).words
-  unfolding kernel_of
-  words_made i l = go (root text names).made i l
-    where
-      go : (a : List Made) (i : ℕ) → i < length a → words_in (map (thread_shape text names) a) i ≡ (at a i).words
-      go [] i l = absurd (omega arith)
-      go (m ∷ a) zero l = refl
-      go (m ∷ a) (suc i) l = go a i (omega arith)
-
   below_body : (i : ℕ) → i < length (root text names).made → FineStmt false (record { kernel = k; words = words_of k (suc i); uses = uses_of k (suc i) }) (body_of k (suc i))
   below_body i l =
       let made = at (root text names).made i in
@@ -97,7 +88,7 @@ module _ (text : Text) (names : List (List ℕ)) (clean : Clean text names) wher
       let f = weak_stmt k made.words all (filter_in made.named all) false made.body (uses_hold (vars_of made.body) made.named all own) (made_fine i l).body in
       subst (λ b. FineStmt false (record { kernel = k; words = words_of k (suc i); uses = uses_of k (suc i) }) b) (sym (fields.made_body text names i l))
       (subst (λ u. FineStmt false (record { kernel = k; words = words_of k (suc i); uses = u }) made.body) (sym (fields.uses_made text names i l))
-      (subst (λ w. FineStmt false (record { kernel = k; words = w; uses = filter_in made.named all }) made.body) (sym (words_made i l)) f))
+      (subst (λ w. FineStmt false (record { kernel = k; words = w; uses = filter_in made.named all }) made.body) (sym (fields.words_made text names i l)) f))
 
   root_ascends : IsTrue (ascends (uses_of k 0))
   unfolding kernel_of
@@ -114,7 +105,7 @@ module _ (text : Text) (names : List (List ℕ)) (clean : Clean text names) wher
   below_params : (i : ℕ) → i < length (root text names).made → (thread_of k (suc i)).params ≤ words_of k (suc i)
   below_params i l =
       let p = ap (λ (x : PlainThread). x.params) (fields.made_shape text names i l) in
-      let w = words_made i l in
+      let w = fields.words_made text names i l in
       let f = (made_fine i l).params in
       omega (arith, p, w, f)
 

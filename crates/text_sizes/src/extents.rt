@@ -80,7 +80,8 @@ fn own(table: &[Extent], s: &Stmt) -> u64
 /// The terms of a loop's body with its step after it, where it has one.
 #[cycle(own)]
 fn step_own(table: &[Extent], step: &Option<Box<Stmt>>, body: u64) -> u64
-    ensures { (n : ℕ) → body ≡ min n (2 ^ 64 - 1) → result ≡ min (counts.own_step (own_at table.now) (perhaps_of step.now) n) (2 ^ 64 - 1) }
+    ensures { (n : ℕ) → body ≡ min n (2 ^ 64 - 1) → result ≡ min
+        (counts.own_step (own_at table.now) (perhaps_of step.now) n) (2 ^ 64 - 1) }
 {
     match step {
         None => body,
@@ -91,7 +92,8 @@ fn step_own(table: &[Extent], step: &Option<Box<Stmt>>, body: u64) -> u64
 /// The terms of a loop with its start before it, where it has one.
 #[cycle(own)]
 fn start_own(table: &[Extent], start: &Option<Box<Stmt>>, turned: u64) -> u64
-    ensures { (n : ℕ) → turned ≡ min n (2 ^ 64 - 1) → result ≡ min (counts.own_start (own_at table.now) (perhaps_of start.now) n) (2 ^ 64 - 1) }
+    ensures { (n : ℕ) → turned ≡ min n (2 ^ 64 - 1) → result
+        ≡ min (counts.own_start (own_at table.now) (perhaps_of start.now) n) (2 ^ 64 - 1) }
 {
     match start {
         None => turned,
@@ -156,7 +158,8 @@ fn under(table: &[Extent], s: &Stmt) -> u64
 
 #[cycle(under)]
 fn optional_under(table: &[Extent], s: &Option<Box<Stmt>>) -> u64
-    ensures { result ≡ min (counts.under_perhaps (own_at table.now) (under_at table.now) (perhaps_of s.now)) (2 ^ 64 - 1) }
+    ensures { result ≡ min (counts.under_perhaps (own_at table.now) (under_at table.now) (perhaps_of s.now))
+        (2 ^ 64 - 1) }
 {
     match s {
         None => 0,
@@ -166,7 +169,8 @@ fn optional_under(table: &[Extent], s: &Option<Box<Stmt>>) -> u64
 
 #[cycle(under)]
 fn all_under(table: &[Extent], list: &[Stmt]) -> u64
-    ensures { result ≡ min (counts.under_all (own_at table.now) (under_at table.now) (plain.statements list.now)) (2 ^ 64 - 1) }
+    ensures { result ≡ min (counts.under_all (own_at table.now) (under_at table.now) (plain.statements list.now))
+        (2 ^ 64 - 1) }
 {
     let mut total = 0;
     for s in list {
@@ -177,7 +181,8 @@ fn all_under(table: &[Extent], list: &[Stmt]) -> u64
 
 #[cycle(under)]
 fn branches_under(table: &[Extent], list: &[Branch]) -> u64
-    ensures { result ≡ min (counts.under_branches (own_at table.now) (under_at table.now) (plain.branches list.now)) (2 ^ 64 - 1) }
+    ensures { result ≡ min (counts.under_branches (own_at table.now) (under_at table.now) (plain.branches list.now))
+        (2 ^ 64 - 1) }
 {
     let mut total = 0;
     for branch in list {

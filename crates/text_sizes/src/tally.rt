@@ -117,7 +117,8 @@ pub fn declared_terms(locals: &[Local]) -> u64
 /// The terms of an assignment: its value, the old one where it has an operator, and its index, which
 /// an operator has twice.
 pub fn assign_terms(target: &Target, op: Option<OpAt>, value: &Expr) -> u64
-    ensures { result ≡ min (counts.assign_count (plain.written_target target.now).index op (counts.term_count (plain.term value.now))) (2 ^ 64 - 1) }
+    ensures { result ≡ min (counts.assign_count (plain.written_target target.now).index op
+        (counts.term_count (plain.term value.now))) (2 ^ 64 - 1) }
 {
     let value = terms_of(value);
     match &target.index {

@@ -151,7 +151,8 @@ fn function_span(index: &Index<'_>, table: &[Span], id: u32) -> Span
 
 /// What is known of each function, each after those that it calls or starts.
 fn table_of(alloc: Global, index: &Index<'_>, order: &[u32]) -> Result<Vec<Span>, OutOfMemory>
-    requires { Settles of.no_span (of.span_step capped_size (indexed_text index.now)) (of.span_value (indexed_text index.now)) order.now }
+    requires { Settles of.no_span (of.span_step capped_size (indexed_text index.now))
+        (of.span_value (indexed_text index.now)) order.now }
     ensures { IfOk result (λ table. (id : ℕ) → of.span_at table.items id ≡ of.span_value (indexed_text index.now) id) }
 {
     let mut table = Vec::new(alloc);

@@ -92,7 +92,8 @@ fn write_binary<W: fmt::Write>(
     op: Binary,
     place: Option<Place>,
 ) -> fmt::Result
-    ensures { DisplaysOnOk W.write_str_gives f.old result (Some (instruction_text (instruction.Binary op place))) f.new }
+    ensures { DisplaysOnOk W.write_str_gives f.old result (Some (instruction_text (instruction.Binary op place)))
+        f.new }
 {
     let word = binary_word(op);
     match place {
@@ -172,7 +173,8 @@ fn list_steps(text: &mut String, steps: &[Instruction]) -> Result<(), OutOfMemor
 
 /// The blocks in order, each under a line with a word and its number.
 fn list_blocks(text: &mut String, word: &str, blocks: &[Block]) -> Result<(), OutOfMemory>
-    ensures { OnOk result (string_bytes text.new ≡ string_bytes text.old ++ blocks_text word.now 0 (map plain_block blocks.now)) }
+    ensures { OnOk result (string_bytes text.new ≡ string_bytes text.old
+        ++ blocks_text word.now 0 (map plain_block blocks.now)) }
 {
     for (number, block) in blocks.iter().enumerate() {
         writeln!(text, "{word} {number}")?;

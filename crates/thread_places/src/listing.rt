@@ -53,7 +53,8 @@ struct Row<'k> {
 
 fn add_row(text: &mut Vec<u8>, row: Row<'_>) -> Result<(), OutOfMemory>
     ensures { OnOk result (text.new.items ≡ text.old.items
-        ++ thread_line row.entry.number row.entry.shape.now.parent (plain_name row.entry.shape.now.name) row.entry.core row.entry.weight) }
+        ++ thread_line row.entry.number row.entry.shape.now.parent (plain_name row.entry.shape.now.name) row.entry.core
+        row.entry.weight) }
 {
     add(text, b"thread ")?;
     add_number(text, u64::from(row.number))?;

@@ -7,3 +7,4 @@ pub mod PartLemmas
 pub mod Starts
 pub mod Shapes
 pub mod Taken
+pub mod Slots

@@ -222,11 +222,21 @@ module _ (s : PlainShape) (ss : List Sibling) where
       by None later = omega (arith, h.within)
       by (Some n) later = omega (arith, h.within, later)
 
+  -- so less is left behind each link
+  pub next_falls : {b : ℕ} {bs : List ℕ} {o after : Option ℕ} → IsLink s ss b bs → o ≡ Some b → after ≡ (sibling_at ss b).next → left_of after < left_of o
+  next_falls {b} {bs} {o} link is next =
+      subst (λ x. left_of x < left_of o) (sym next) (subst (λ o. left_of (sibling_at ss b).next < left_of o) (sym is) (left_falls b bs link))
+
   -- what the k-th link says of the arguments from it on
   pub lead_at : (o : Option ℕ) (bs : List ℕ) (k : ℕ) → Lead s ss o bs → k < length bs → (get_or bs k 0 < length ss) × (arguments_from ss (Some (get_or bs k 0)) ≡ arguments_of s (drop k bs))
   lead_at o [] k h lt = absurd (omega arith)
   lead_at o (b ∷ bs) zero h lt = (h.1.within, h.1.arguments)
   lead_at o (b ∷ bs) (suc k) h lt = lead_at (sibling_at ss b).next bs k h.2 (omega arith)
+
+-- the first branch that was read of these links leads
+pub first_leads : (s : PlainShape) (bs : List ℕ) (j : ℕ) {p q : Links} {o : Option ℕ} → o ≡ first_of p j → p ≡ q → Lead s q.siblings (first_of q j) bs → Lead s p.siblings o bs
+first_leads s bs j {p} first same h =
+    subst (λ o. Lead s p.siblings o bs) (sym first) (subst (λ (p : Links). Lead s p.siblings (first_of p j) bs) (sym same) h)
 
 -- what is noted of the arguments of the k-th of all branches of a par
 pub fork_arguments : (s : PlainShape) (p : Links) → HavePars s p → (bs : List ℕ) (j : ℕ) → bs ≡ branches_in s j → (k : ℕ) → k < length bs →

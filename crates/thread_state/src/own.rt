@@ -150,6 +150,7 @@ impl Own {
         self.copies[at]
     }
 
+    /// Sets the thread's copy of the shared variable at this place of its list.
     pub fn set_copy(&mut self, at: usize, copy: VarCopy)
         requires { at < length self.old.copies }
         ensures { self.new ≡ with_copy_at at copy self.old }
@@ -157,6 +158,7 @@ impl Own {
         self.copies[at] = copy;
     }
 
+    /// Whether the flag of an abort is set.
     pub fn is_set(&self, flag: u32) -> bool
         requires { flag < length self.now.flags }
         ensures { result ≡ get_or self.now.flags flag false }
@@ -164,6 +166,7 @@ impl Own {
         self.flags[flag as usize]
     }
 
+    /// Sets the flag of an abort, or clears it.
     pub fn set_flag(&mut self, flag: u32, value: bool)
         requires { flag < length self.old.flags }
         ensures { self.new ≡ with_flag flag value self.old }
@@ -171,6 +174,7 @@ impl Own {
         self.flags[flag as usize] = value;
     }
 
+    /// Whether a branch, given by its thread, has not ended yet.
     pub fn is_live(&self, thread: usize) -> bool
         requires { thread < length self.now.live }
         ensures { result ≡ get_or self.now.live thread false }
@@ -178,6 +182,7 @@ impl Own {
         self.live[thread] == self.start
     }
 
+    /// Notes whether a branch, given by its thread, goes on.
     pub fn set_live(&mut self, thread: u32, live: bool)
         requires { thread < length self.old.live }
         ensures { self.new ≡ with_live_at thread live self.old }

@@ -8,12 +8,14 @@ use forec_base::MAX_BUDGET;
 /// Stands for each bound that is past the greatest budget.
 const PAST: u64 = MAX_BUDGET + 1;
 
+/// The sum of two bounds in units; each sum past the greatest budget is one unit above it.
 pub fn plus(a: u64, b: u64) -> u64
     ensures { result ≡ capped (a + b) }
 {
     a.saturating_add(b).min(PAST)
 }
 
+/// So many times a bound in units; each product past the greatest budget is one unit above it.
 pub fn times(n: u64, bound: u64) -> u64
     ensures { result ≡ capped (n * bound) }
 {

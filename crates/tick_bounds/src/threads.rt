@@ -25,7 +25,8 @@ pub fn thread_bounds(
     functions: &[Option<u64>],
 ) -> Result<Vec<u64>, OutOfMemory>
     requires { (g : ℕ) → HoldsBounds (plain_kernel kernel.now) functions.now g }
-    ensures { IfOk result (λ table. (t : ℕ) → at_table table.items t ≡ capped (plain.thread_bound (plain_kernel kernel.now) t)) }
+    ensures { IfOk result (λ table. (t : ℕ) → at_table table.items t
+        ≡ capped (plain.thread_bound (plain_kernel kernel.now) t)) }
 {
     let bodies = kernel.parts().threads.as_slice();
     let mut bounds = zeros(alloc, bodies.len())?;

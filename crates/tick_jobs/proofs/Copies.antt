@@ -1,7 +1,8 @@
 -- Copies of all variables, which stand at their numbers.
-use Rattle.std.proofs.Common.{◌≡◌, ℕ, zero, suc, ◌+◌, ◌<◌, ◌==◌, ℤ, Bool, true, false, cond, List, [], ◌∷◌, ◌++◌, length, get_or, take, drop, IsTrue, refl, sym, ap, ◌∙◌, arith, take-suc, take-suc-set, drop-cons, add-one}
+use Rattle.std.proofs.Common.{◌≡◌, ℕ, zero, suc, ◌+◌, ◌<◌, ◌≤◌, ◌==◌, ℤ, Bool, true, false, cond, List, [], ◌∷◌, ◌++◌, length, get_or, take, drop, IsTrue, refl, sym, ap, ◌∙◌, arith, take-suc, take-suc-set, drop-cons, pos, add-one}
 use Rattle.std.specs.Prelude.{slice_set, ◌&&◌, nat_lt}
 use Rattle.std.proofs.lemmas.Bool.Decides.{nat_tests}
+use Rattle.std.proofs.lemmas.List.{take_all}
 use Rattle.forec_kernel.specs.declared.shape.VarCopy.{VarCopy}
 use Rattle.forec_kernel.specs.declared.shape.Variable.{Variable}
 use Rattle.forec_kernel.specs.Values.{copy_of}
@@ -92,6 +93,10 @@ unmarked_more cs i n lt h =
     ap unmarked e ∙ unmarked_append (take i cs) (x ∷ []) ∙ ap (λ ds. ds ++ x ∷ []) h ∙ sym e
 
 -- ---- the row
+
+-- a row has no more than these
+pub taken_at : (n : ℕ) (row : List ℤ) (i : ℕ) → length row ≤ n → get_or (take n row) i (pos 0) ≡ get_or row i (pos 0)
+taken_at n row i le = ap (λ (ns : List ℤ). get_or ns i (pos 0)) (take_all n row le)
 
 pub row_more : (inputs : List ℕ) (row : List ℤ) (copies : List VarCopy) (n i di : ℕ) (dr m : ℤ) → n ≡ length copies → IsTrue (all_below n inputs) → i < length inputs → i < length row → m ≡ get_or row i dr →
     with_row (count_up 0 n) (drop (i + 1) inputs) (drop (i + 1) row) (slice_set copies (get_or inputs i di) (record { value = m; modified = false }))

@@ -35,7 +35,8 @@ fn fill_part<S: Source>(source: &mut S, bytes: &mut [u8], end: usize) -> Result<
     ensures front { take end bytes.new ≡ take end bytes.old }
     ensures within { IfOk result (λ n. end + n ≤ length bytes.new) }
     ensures bytes { MatchResult result
-        (λ n. Consumes (S.left source.old) (S.left source.new) (slice_range bytes.new end (end + n)) × (n ≡ 0 → IsAtEnd (S.left source.new)))
+        (λ n. Consumes (S.left source.old) (S.left source.new) (slice_range bytes.new end (end + n))
+        × (n ≡ 0 → IsAtEnd (S.left source.new)))
         (λ _. Keeps (S.left source.old) (S.left source.new)) }
     ensures cause { HasCause (S.faults source.old) (S.faults source.new) (S.down source.new) result }
 {
@@ -50,7 +51,8 @@ pub fn fill<S: Source>(source: &mut S, bytes: &mut Vec<u8>, end: usize) -> Resul
     ensures same { length bytes.new.items ≡ length bytes.old.items }
     ensures within { IfOk result (λ n. end + n ≤ length bytes.old.items) }
     ensures bytes { MatchResult result
-        (λ n. Consumes (S.left source.old) (S.left source.new) (slice_range bytes.new.items end (end + n)) × (n ≡ 0 → IsAtEnd (S.left source.new)))
+        (λ n. Consumes (S.left source.old) (S.left source.new) (slice_range bytes.new.items end (end + n))
+        × (n ≡ 0 → IsAtEnd (S.left source.new)))
         (λ _. Keeps (S.left source.old) (S.left source.new)) }
     ensures cause { HasCause (S.faults source.old) (S.faults source.new) (S.down source.new) result }
 {

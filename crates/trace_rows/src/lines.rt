@@ -82,7 +82,8 @@ impl Lines {
         requires short { length (held self.old) ≤ MAX_LINE_BYTES }
         requires none { HasLine (held self.old) → ⊥ }
         requires going { self.old.ended ≡ false }
-        ensures read { (piece : List ℕ) × (held self.new ≡ held self.old ++ piece) × IsRead S.left S.faults S.down source.old source.new piece }
+        ensures read { (piece : List ℕ) × (held self.new ≡ held self.old ++ piece)
+            × IsRead S.left S.faults S.down source.old source.new piece }
         ensures ok { OnOk result ((length (held self.old) < length (held self.new)) ⊎ (self.new.ended ≡ true)) }
         ensures err { OnErr result ((held self.new ≡ held self.old) × (self.new.ended ≡ false)) }
         ensures ended { self.new.ended ≡ true → IsAtEnd (S.left source.new) × (held self.new ≡ held self.old) }
@@ -103,7 +104,8 @@ impl Lines {
     fn found(&self) -> Option<Result<Next, RowFault>>
         ensures some { IfSome result (λ f. FindsFirstLine (held self.now) self.now.ended f) }
         ensures told { IfSome result (λ f. f ≢ Err RowFault.ReadFault) }
-        ensures none { IfNone result ((HasLine (held self.now) → ⊥) × (self.now.ended ≡ false) × (length (held self.now) ≤ 8192)) }
+        ensures none { IfNone result ((HasLine (held self.now) → ⊥) × (self.now.ended ≡ false)
+            × (length (held self.now) ≤ 8192)) }
     {
         if self.stop - self.at > MAX_LINE_BYTES {
             return Some(Err(RowFault::Long));
@@ -127,14 +129,16 @@ impl Lines {
     pub fn find<S: Source>(&mut self, source: &mut S) -> Result<Next, RowFault>
         requires { self.old.ended ≡ true → IsAtEnd (S.left source.old) }
         ensures came { Came (held self.old) (held self.new) (S.left source.old) (S.left source.new) }
-        ensures reads { Gathers S.left S.faults S.down (held self.old) self.old.ended (held self.new) source.old source.new }
+        ensures reads { Gathers S.left S.faults S.down (held self.old) self.old.ended (held self.new) source.old
+            source.new }
         ensures finds { FindsFirstLine (held self.new) self.new.ended result }
         ensures ended { self.new.ended ≡ true → IsAtEnd (S.left source.new) }
         ensures stays { self.new.ended ≡ false → self.old.ended ≡ false }
         ensures asks { HasLine (held self.old) → source.new ≡ source.old }
         ensures closed { self.old.ended ≡ true → source.new ≡ source.old }
         ensures later { S.faults source.old ≤ S.faults source.new }
-        ensures fault { result ≡ Err RowFault.ReadFault → Fell (S.faults source.old) (S.faults source.new) (S.down source.new) }
+        ensures fault { result ≡ Err RowFault.ReadFault → Fell (S.faults source.old) (S.faults source.new)
+            (S.down source.new) }
     {
         'pieces: loop {
             if let Some(found) = self.found() {
@@ -150,7 +154,8 @@ impl Lines {
     pub fn begins<S: Source>(&mut self, source: &mut S) -> Result<bool, Failed>
         requires { self.old.ended ≡ true → IsAtEnd (S.left source.old) }
         ensures came { Came (held self.old) (held self.new) (S.left source.old) (S.left source.new) }
-        ensures reads { Gathers S.left S.faults S.down (held self.old) self.old.ended (held self.new) source.old source.new }
+        ensures reads { Gathers S.left S.faults S.down (held self.old) self.old.ended (held self.new) source.old
+            source.new }
         ensures begins { BeginsLine (held self.new) self.new.ended result }
         ensures ended { self.new.ended ≡ true → IsAtEnd (S.left source.new) }
         ensures stays { self.new.ended ≡ false → self.old.ended ≡ false }

@@ -92,7 +92,8 @@ fn negative_number(magnitude: u64) -> Option<i32>
 
 /// The number that digits at the front of a text are, if they are its first word.
 fn positive_at(text: &[u8]) -> Option<Number>
-    ensures some { IfSome result (λ n. (n.len ≡ position_or_len is_blank text.now) × (positive (magnitude_of (take n.len text.now)) ≡ Some n.value)) }
+    ensures some { IfSome result (λ n. (n.len ≡ position_or_len is_blank text.now)
+        × (positive (magnitude_of (take n.len text.now)) ≡ Some n.value)) }
     ensures none { IfNone result (positive (magnitude_of (take (position_or_len is_blank text.now) text.now)) ≡ None) }
 {
     let digits = magnitude_at(text)?;
@@ -105,7 +106,8 @@ fn positive_at(text: &[u8]) -> Option<Number>
 
 /// The same of what stands after a `-`.
 fn negative_at(text: &[u8]) -> Option<Number>
-    ensures some { IfSome result (λ n. (n.len ≡ position_or_len is_blank text.now) × (negative (magnitude_of (take n.len text.now)) ≡ Some n.value)) }
+    ensures some { IfSome result (λ n. (n.len ≡ position_or_len is_blank text.now)
+        × (negative (magnitude_of (take n.len text.now)) ≡ Some n.value)) }
     ensures none { IfNone result (negative (magnitude_of (take (position_or_len is_blank text.now) text.now)) ≡ None) }
 {
     let digits = magnitude_at(text)?;
@@ -118,7 +120,8 @@ fn negative_at(text: &[u8]) -> Option<Number>
 
 /// The number that is the first word of a text, if it is one. The text begins with no blank.
 pub fn number_at(text: &[u8]) -> Option<Number>
-    ensures some { IfSome result (λ n. (n.len ≡ position_or_len is_blank text.now) × (word_number (take n.len text.now) ≡ Some n.value)) }
+    ensures some { IfSome result (λ n. (n.len ≡ position_or_len is_blank text.now)
+        × (word_number (take n.len text.now) ≡ Some n.value)) }
     ensures none { IfNone result (word_number (take (position_or_len is_blank text.now) text.now) ≡ None) }
 {
     match text {

@@ -56,12 +56,14 @@ impl Rows {
         ensures trace { IfTold (S.left source.old) (S.left source.new) (StartSays inputs.now limit result) }
         ensures bytes { StartTakes inputs.now (S.left source.old) (S.left source.new) result }
         ensures reads { Reading S.left S.faults S.down [] false source.old source.new (StartTook inputs.now result) }
-        ensures rows { IfOk result (λ r. (row_width r.form ≡ length inputs.now) × (r.limit ≡ limit) × (r.given ≡ 0) × (r.live ≡ true)) }
+        ensures rows { IfOk result (λ r. (row_width r.form ≡ length inputs.now) × (r.limit ≡ limit) × (r.given ≡ 0)
+            × (r.live ≡ true)) }
         ensures ended { IfOk result (λ r. r.ended ≡ true → IsAtEnd (S.left source.new)) }
         ensures memory { result ≡ Err RowFault.OutOfMemory → source.new ≡ source.old }
         ensures many { result ≢ Err RowFault.Many }
         ensures later { S.faults source.old ≤ S.faults source.new }
-        ensures fault { result ≡ Err RowFault.ReadFault → Fell (S.faults source.old) (S.faults source.new) (S.down source.new) }
+        ensures fault { result ≡ Err RowFault.ReadFault → Fell (S.faults source.old) (S.faults source.new)
+            (S.down source.new) }
     {
         let mut lines = Lines::new(alloc)?;
         let mut places = vec![in alloc; 0usize; inputs.len() as usize]?;
@@ -115,7 +117,8 @@ impl Rows {
         requires ended { self.old.ended ≡ true → IsAtEnd (S.left source.old) }
         ensures trace { IfTold (S.left source.old) (S.left source.new) (NextSays self.old self.new row.new result) }
         ensures bytes { NextTakes self.old self.new row.new (S.left source.old) (S.left source.new) result }
-        ensures reads { Reading S.left S.faults S.down self.old.held self.old.ended source.old source.new (NextTook self.old self.new row.new result) }
+        ensures reads { Reading S.left S.faults S.down self.old.held self.old.ended source.old source.new
+            (NextTook self.old self.new row.new result) }
         ensures goes { NextLeaves self.old self.new row.old row.new result }
         ensures same { self.new.limit ≡ self.old.limit }
         ensures ended { self.new.ended ≡ true → IsAtEnd (S.left source.new) }
@@ -124,7 +127,8 @@ impl Rows {
         ensures closed { self.old.ended ≡ true → source.new ≡ source.old }
         ensures memory { result ≢ Err RowFault.OutOfMemory }
         ensures later { S.faults source.old ≤ S.faults source.new }
-        ensures fault { result ≡ Err RowFault.ReadFault → Fell (S.faults source.old) (S.faults source.new) (S.down source.new) }
+        ensures fault { result ≡ Err RowFault.ReadFault → Fell (S.faults source.old) (S.faults source.new)
+            (S.down source.new) }
     {
         self.live = false;
         match find_next(&mut self.lines, source, self.given, self.limit) {

@@ -21,12 +21,15 @@ pub fn take_header<S: Source>(
 ) -> Result<bool, RowFault>
     requires places { length places.old.items ≡ length inputs.now }
     requires ended { lines.old.ended ≡ true → IsAtEnd (S.left source.old) }
-    ensures header { LinesTakeHeader inputs.now places.new.items lines.old lines.new (S.left source.old) (S.left source.new) result }
-    ensures reads { LinesReadHeader S.left S.faults S.down inputs.now places.new.items lines.old lines.new source.old source.new result }
+    ensures header { LinesTakeHeader inputs.now places.new.items lines.old lines.new (S.left source.old)
+        (S.left source.new) result }
+    ensures reads { LinesReadHeader S.left S.faults S.down inputs.now places.new.items lines.old lines.new source.old
+        source.new result }
     ensures places { length places.new.items ≡ length places.old.items }
     ensures ended { lines.new.ended ≡ true → IsAtEnd (S.left source.new) }
     ensures later { S.faults source.old ≤ S.faults source.new }
-    ensures fault { result ≡ Err RowFault.ReadFault → Fell (S.faults source.old) (S.faults source.new) (S.down source.new) }
+    ensures fault { result ≡ Err RowFault.ReadFault → Fell (S.faults source.old) (S.faults source.new)
+        (S.down source.new) }
 {
     match lines.find(source) {
         Err(fault) => return Err(fault),
@@ -49,14 +52,16 @@ pub fn find_next<S: Source>(
 ) -> Result<Next, RowFault>
     requires ended { lines.old.ended ≡ true → IsAtEnd (S.left source.old) }
     ensures came { Came (held lines.old) (held lines.new) (S.left source.old) (S.left source.new) }
-    ensures reads { Gathers S.left S.faults S.down (held lines.old) lines.old.ended (held lines.new) source.old source.new }
+    ensures reads { Gathers S.left S.faults S.down (held lines.old) lines.old.ended (held lines.new) source.old
+        source.new }
     ensures finds { FindsNext limit given (held lines.new) lines.new.ended result }
     ensures ended { lines.new.ended ≡ true → IsAtEnd (S.left source.new) }
     ensures stays { lines.new.ended ≡ false → lines.old.ended ≡ false }
     ensures asks { HasLine (held lines.old) → source.new ≡ source.old }
     ensures closed { lines.old.ended ≡ true → source.new ≡ source.old }
     ensures later { S.faults source.old ≤ S.faults source.new }
-    ensures fault { result ≡ Err RowFault.ReadFault → Fell (S.faults source.old) (S.faults source.new) (S.down source.new) }
+    ensures fault { result ≡ Err RowFault.ReadFault → Fell (S.faults source.old) (S.faults source.new)
+        (S.down source.new) }
 {
     if given >= limit {
         return match lines.begins(source) {

@@ -30,7 +30,8 @@ fn put_pair(
     requires room { at + (length name.now + 13) ≤ length buffer.old }
     ensures within { result ≤ at + (length name.now + 13) }
     ensures front { take result buffer.new
-        ≡ take at buffer.old ++ (codes " " ++ name.now ++ codes "=" ++ signed_decimal (slice_index_or values.now i (pos 0))) }
+        ≡ take at buffer.old ++ (codes " " ++ name.now ++ codes "="
+        ++ signed_decimal (slice_index_or values.now i (pos 0))) }
 {
     let at = put(buffer, at, b" ");
     let at = put(buffer, at, name.as_bytes());

@@ -47,7 +47,8 @@ fn word_end(line: &[u8]) -> usize
 /// The first word of a line that begins with no blank, and what stands after it.
 fn first_word(line: &[u8]) -> Option<(&[u8], &[u8])>
     requires { BeginsNoBlank line.now }
-    ensures some { IfSome result (λ r. (line_words line.now ≡ r.0.now ∷ line_words r.1.now) × (length r.1.now < length line.now)) }
+    ensures some { IfSome result (λ r. (line_words line.now ≡ r.0.now ∷ line_words r.1.now)
+        × (length r.1.now < length line.now)) }
     ensures none { IfNone result (line_words line.now ≡ []) }
 {
     if line.is_empty() {
@@ -61,7 +62,8 @@ fn first_word(line: &[u8]) -> Option<(&[u8], &[u8])>
 
 /// The first word of a line, and what stands after it.
 pub fn next_word(line: &[u8]) -> Option<(&[u8], &[u8])>
-    ensures some { IfSome result (λ r. (line_words line.now ≡ r.0.now ∷ line_words r.1.now) × (length r.1.now < length line.now)) }
+    ensures some { IfSome result (λ r. (line_words line.now ≡ r.0.now ∷ line_words r.1.now)
+        × (length r.1.now < length line.now)) }
     ensures none { IfNone result (line_words line.now ≡ []) }
 {
     first_word(skip_blanks(line))

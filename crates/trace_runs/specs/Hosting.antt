@@ -22,7 +22,7 @@ HostFollows h = CodeFollows (hosted.code_of h) (runs.HostHasRun h)
 
 -- the code has all threads on one core
 abbrev pub OneFollows : single.Single → PlainKernel → List TickInput → Type 0
-OneFollows o = CodeFollows (single.code_of o) (single.OneCoreHasRun o)
+OneFollows o = CodeFollows (single.single_code o) (single.OneCoreHasRun o)
 
 -- this was done with each kernel for which a code stands
 abbrev pub DidForEach : PlainCode → (PlainKernel → Status → Type 0) → Status → Type 0

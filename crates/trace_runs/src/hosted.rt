@@ -97,14 +97,14 @@ impl<'c, P: Port<ForecWork> + Drop> Ticker for Alone<'c, P> {
 
 impl<'c> Ticker for OneCore<'c> {
     ghost use Rattle.std.specs.Prelude.{◌≡◌, true};
-    ghost use Rattle.one_core.specs.Single.{code_of, is_live};
+    ghost use Rattle.one_core.specs.Single.{single_code, single_is_live};
     ghost use Rattle.trace_runs.specs.Hosting.{OneFollows};
 
-    ghost shape = { λ o. (code_of o).shape };
+    ghost shape = { λ o. (single_code o).shape };
 
     ghost follows = { λ o. OneFollows o };
 
-    ghost live = { λ o. is_live o ≡ true };
+    ghost live = { λ o. single_is_live o ≡ true };
 
     ghost ready = { λ o. true };
 

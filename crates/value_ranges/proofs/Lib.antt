@@ -5,4 +5,5 @@ pub mod Texts
 pub mod Joins
 pub mod Moves
 pub mod Waking
+pub mod Kept
 pub mod Ticks

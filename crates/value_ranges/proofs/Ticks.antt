@@ -1,20 +1,20 @@
 -- The outputs of each tick fit 32 bits.
-use Rattle.std.proofs.Common.{ℕ, zero, suc, ◌≡◌, ℤ, Bool, true, false, nat_lt, List, [], ◌∷◌, length, refl, ap, FitsSigned, w32}
+use Rattle.std.proofs.Common.{ℕ, suc, ◌≡◌, ℤ, Bool, true, false, nat_lt, List, [], ◌∷◌, length, refl, ap, FitsSigned, w32}
 use Rattle.std.specs.List.{AllByRecursion}
 use Rattle.forec_kernel.specs.declared.shape.VarCopy.{VarCopy}
 use Rattle.forec_kernel.specs.declared.shape.Variable.{Variable}
 use Rattle.forec_kernel.specs.declared.shape.Outcome.TheVariants as outcome
 use Rattle.forec_kernel.specs.Shapes.{PlainKernel}
 use Rattle.forec_kernel.specs.Texts.{Thread, uses_of, words_of, body_of, put_copy}
-use Rattle.forec_kernel.specs.Size.{text_size}
 use Rattle.forec_kernel.specs.Steps.{Move, Finished, Halts, Moves, Traps, thread_move, woken}
-use Rattle.forec_kernel.specs.Ticks.{Going, is_stopped, moved, TickState, Fresh, After_tick, start_copies, unmarked, with_row, begin, Tick, values_of, outcome_of, concluded, free_steps, finished, tick, goes_on, run_from}
+use Rattle.forec_kernel.specs.Ticks.{Going, is_stopped, moved, TickState, Fresh, After_tick, start_copies, unmarked, with_row, begin, Tick, values_of, outcome_of, concluded, finished, tick, goes_on, run_from}
 use Rattle.value_ranges.specs.Words.{AreWords, KernelWords}
 use Rattle.value_ranges.specs.Laws.{FitReached, at_first, after, TickWords, TicksFit, ValuesFit}
 use Rattle.value_ranges.proofs.Values.{CopiesFit, copy_fits, fresh_fits}
 use Rattle.value_ranges.proofs.Texts.{TextFits, text_fits, put_fits}
 use Rattle.value_ranges.proofs.Moves.{MoveFits, body_fits, move_fits}
 use Rattle.value_ranges.proofs.Waking.{text_if_fits, woken_fits}
+use Rattle.value_ranges.proofs.Kept.{finished_has}
 
 -- ---- copies at the start of a tick
 
@@ -49,20 +49,14 @@ pub record ThreadFits (t : Thread) : Type 0 where
   pub words : AreWords t.words
   pub copies : CopiesFit t.copies
 
-abbrev StateFits : TickState → Type 0
+abbrev pub StateFits : TickState → Type 0
 StateFits Fresh = Unit {0}
 StateFits (After_tick t) = ThreadFits t
 
 -- the outputs of a tick, and the thread that it leaves
-record TickFits (k : PlainKernel) (t : Tick) : Type 0 where
-  outputs : TickWords k t
-  state : StateFits t.state
-
-either_going : (b c : Bool) (g g' g'' : Going) → ThreadFits g.thread → ThreadFits g'.thread → ThreadFits g''.thread →
-    let r : Going = elim b [ true ↦ g | false ↦ elim c [ true ↦ g' | false ↦ g'' ] ] in ThreadFits r.thread
-either_going true c g g' g'' h h' h'' = h
-either_going false true g g' g'' h h' h'' = h'
-either_going false false g g' g'' h h' h'' = h''
+pub record TickFits (k : PlainKernel) (t : Tick) : Type 0 where
+  pub outputs : TickWords k t
+  pub state : StateFits t.state
 
 module _ (k : PlainKernel) (numbers : KernelWords k) where
   moved_fits : (g : Going) → ThreadFits g.thread → (m : Move) → MoveFits m → ThreadFits (moved g m).thread
@@ -76,20 +70,7 @@ module _ (k : PlainKernel) (numbers : KernelWords k) where
       moved_fits g h (thread_move k [] g.thread)
       (move_fits k numbers [] (uses_of k g.thread.number) g.thread.words g.thread.copies g.thread.text h.words h.copies h.text)
 
-  free_fits : (stop : Going → Bool) (paid : Going → Going) → ((g : Going) → ThreadFits g.thread → ThreadFits (paid g).thread) → (size : ℕ)
-      (g : Going) → ThreadFits g.thread → ThreadFits (free_steps k stop paid size g).thread
-  free_fits stop paid fits zero g h = h
-  free_fits stop paid fits (suc size) g h =
-      let g' = moved g (thread_move k [] g.thread) in
-      either_going (stop g) (nat_lt g.units g'.units) g (paid g') (free_steps k stop paid size g') h (fits g' (step_fits g h))
-      (free_fits stop paid fits size g' (step_fits g h))
-
-  finished_fits : (stop : Going → Bool) (left : ℕ) (g : Going) → ThreadFits g.thread → ThreadFits (finished k stop left g).thread
-  finished_fits stop zero g h = h
-  finished_fits stop (suc left) g h =
-      free_fits stop (finished k stop left) (λ g' h'. finished_fits stop left g' h') (suc (text_size g.thread.text)) g h
-
-  begin_fits : (old : TickState) (row : List ℤ) → StateFits old → AreWords row → ThreadFits (begin k old row).thread
+  pub begin_fits : (old : TickState) (row : List ℤ) → StateFits old → AreWords row → ThreadFits (begin k old row).thread
   begin_fits Fresh row h r =
       record {
         text = text_fits (body_of k 0) (body_fits k numbers 0);
@@ -130,11 +111,11 @@ module _ (k : PlainKernel) (numbers : KernelWords k) where
             state = f;
           }
 
-  tick_fits : (budget : ℕ) (old : TickState) (row : List ℤ) → StateFits old → AreWords row → TickFits k (tick k budget old row)
+  pub tick_fits : (budget : ℕ) (old : TickState) (row : List ℤ) → StateFits old → AreWords row → TickFits k (tick k budget old row)
   tick_fits budget old row h r =
       let g = begin k old row in
       concluded_fits budget old (finished k (is_stopped budget) (suc budget) g) h
-      (finished_fits (is_stopped budget) (suc budget) g (begin_fits old row h r))
+      (finished_has k ThreadFits step_fits (is_stopped budget) (suc budget) g (begin_fits old row h r))
 
   -- ---- runs
 

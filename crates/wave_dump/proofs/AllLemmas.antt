@@ -1,7 +1,7 @@
 -- All values of a tick.
-use Rattle.std.proofs.Common.{◌≡◌, ℕ, suc, ◌+◌, ◌<◌, ◌≤◌, Bool, true, false, cond, ◌⊎◌, Some, None, Result, Ok, Err, List, [], ◌∷◌, ◌++◌, length, take, drop, set, get_or, ℤ, refl, sym, ap, ap₂, ◌∙◌, arith, append_assoc, ne_eqb, take-append-drop, drop-drop, drop-set-lt, take-add}
+use Rattle.std.proofs.Common.{◌≡◌, ℕ, suc, ◌+◌, ◌-◌, ◌<◌, ◌≤◌, Bool, true, false, cond, ◌⊎◌, Some, None, Result, Ok, Err, List, [], ◌∷◌, ◌++◌, length, take, drop, set, get_or, ℤ, refl, sym, ap, ap₂, ◌∙◌, arith, append_assoc, ne_eqb, take-append-drop, drop-drop, drop-set-lt, take-add}
 use Rattle.std.specs.Int.{w32, cast_signed}
-use Rattle.std.proofs.lemmas.List.{take_more_set}
+use Rattle.std.proofs.lemmas.List.{take_rest, take_more_set}
 use Rattle.wave_dump.specs.declared.fault.WaveFault.{WaveFault}
 use Rattle.wave_dump.specs.declared.fault.WaveFault.TheVariants as fault
 use Rattle.wave_dump.specs.Wave.{PlainDump}
@@ -37,6 +37,11 @@ pub spot_after : (bytes : List ℕ) (at : ℕ) (names : List (List ℕ)) (ticks 
 spot_after bytes at names ticks first xs all j k w low e =
     ap₂ (λ (n : List ℤ) (l : List ℕ). dump_from bytes at (Body (spot_with names ticks n (olds_at first l)))) (now_after xs j k w low) (left_after xs j k w)
     ∙ ap (λ (ys : List ℕ). dump_from bytes at (Body (spot_with names ticks (signed_words (take (j + (k + 1)) ys)) (olds_at first (drop (j + (k + 1)) ys))))) (sym e)
+
+-- those that are left, as a part of all
+pub left_part : (bytes : List ℕ) (at : ℕ) (names : List (List ℕ)) (ticks : List (List ℤ)) (now : List ℤ) (first : Bool) (xs : List ℕ) (j : ℕ) →
+    dump_from bytes at (Body (spot_with names ticks now (olds_at first (drop j xs)))) ≡ dump_from bytes at (Body (spot_with names ticks now (olds_at first (take (length xs - j) (drop j xs)))))
+left_part bytes at names ticks now first xs j = ap (λ (l : List ℕ). dump_from bytes at (Body (spot_with names ticks now (olds_at first l)))) (sym (take_rest xs j))
 
 -- ---- the end
 

@@ -7,27 +7,25 @@ ghost use Rattle.wave_dump.specs.Reading.{Continues, dump_from, dump_between, sp
 use crate::fault::WaveFault;
 use crate::numbers::number;
 use crate::pieces::{expect, stands};
-use crate::values::{can_have, which};
+use crate::values::{Left, can_have, which};
 
 /// Reads the output of a value, to the end of the line: which of those that are left, and the place behind.
 fn read_letter(
     bytes: &[u8],
     at: usize,
-    first: bool,
-    left: &[u32],
-    j: usize,
+    left: &Left<'_>,
     word: u32,
 ) -> Result<(usize, usize), WaveFault>
     requires place { at ≤ length bytes.now }
-    requires few { j ≤ 64 }
-    ensures within { IfOk result (λ x. (x.0 < length left.now) × (at ≤ x.1) × (x.1 ≤ length bytes.now)) }
-    ensures goes { (names : List (List ℕ)) (ticks : List (List ℤ)) (now : List ℤ) → length now ≡ j
-        → Continues result (dump_from bytes.now at
-        (literal (32 ∷ []) (Letter (spot_with names ticks now (olds_at first left.now)) (cast_signed w32 word))))
-        (λ x. dump_from bytes.now x.1 (body_behind names ticks now first left.now x.0 word)) }
+    requires few { left.now.output ≤ 64 }
+    ensures within { IfOk result (λ x. (x.0 < length left.now.words.now) × (at ≤ x.1) × (x.1 ≤ length bytes.now)) }
+    ensures goes { (names : List (List ℕ)) (ticks : List (List ℤ)) (now : List ℤ) → length now ≡ left.now.output
+        → Continues result (dump_from bytes.now at (literal (32 ∷ [])
+        (Letter (spot_with names ticks now (olds_at left.now.first left.now.words.now)) (cast_signed w32 word))))
+        (λ x. dump_from bytes.now x.1 (body_behind names ticks now left.now.first left.now.words.now x.0 word)) }
 {
     let letter = expect(bytes, at, b" ")?;
-    let k = which(bytes, letter, first, left, j, word)?;
+    let k = which(bytes, letter, left, word)?;
     let next = expect(bytes, letter + 1, b"\n")?;
     Ok((k, next))
 }
@@ -43,25 +41,22 @@ pub struct Found {
     pub next: usize,
 }
 
-/// Reads a value of one of the outputs that are left, of which the first is output j.
-fn read_value(
-    bytes: &[u8],
-    at: usize,
-    first: bool,
-    left: &[u32],
-    j: usize,
-) -> Result<Found, WaveFault>
+/// Reads a value of one of the outputs that are left.
+fn read_value(bytes: &[u8], at: usize, left: &Left<'_>) -> Result<Found, WaveFault>
     requires begins { (at < length bytes.now) × (get_or bytes.now at 0 ≡ 98) }
-    requires some { 0 < length left.now }
-    requires few { j ≤ 64 }
-    ensures within { IfOk result (λ x. (x.output < length left.now) × (at < x.next) × (x.next ≤ length bytes.now)) }
-    ensures goes { (names : List (List ℕ)) (ticks : List (List ℤ)) (now : List ℤ) → length now ≡ j
-        → Continues result (dump_from bytes.now at (Body (spot_with names ticks now (olds_at first left.now))))
-        (λ x. dump_from bytes.now x.next (body_behind names ticks now first left.now x.output x.word)) }
+    requires some { 0 < length left.now.words.now }
+    requires few { left.now.output ≤ 64 }
+    ensures within { IfOk result
+        (λ x. (x.output < length left.now.words.now) × (at < x.next) × (x.next ≤ length bytes.now)) }
+    ensures goes { (names : List (List ℕ)) (ticks : List (List ℤ)) (now : List ℤ) → length now ≡ left.now.output
+        → Continues result
+        (dump_from bytes.now at (Body (spot_with names ticks now (olds_at left.now.first left.now.words.now))))
+        (λ x. dump_from bytes.now x.next (body_behind names ticks now left.now.first left.now.words.now x.output
+        x.word)) }
 {
     let word = number(bytes, at + 1)?;
-    if can_have(first, left, word) {
-        let (output, next) = read_letter(bytes, at + 33, first, left, j, word)?;
+    if can_have(left.first, left.words, word) {
+        let (output, next) = read_letter(bytes, at + 33, left, word)?;
         return Ok(Found { output, word, next });
     }
     Err(WaveFault::Bad {
@@ -109,7 +104,12 @@ pub fn read_values(
     let mut j = 0usize;
     let mut at = start;
     while j < values.len() && stands(bytes, at, b'b') {
-        let found = read_value(bytes, at, first, &values[j..], j)?;
+        let left = Left {
+            first,
+            words: &values[j..],
+            output: j,
+        };
+        let found = read_value(bytes, at, &left)?;
         values[j + found.output] = found.word;
         j += found.output + 1;
         at = found.next;

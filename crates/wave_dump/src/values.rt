@@ -6,6 +6,17 @@ ghost use Rattle.wave_dump.specs.Reading.{Continues, dump_from, spot_with, body_
 
 use crate::fault::WaveFault;
 
+/// The outputs that are left in a tick.
+#[derive(Clone, Copy)]
+pub struct Left<'a> {
+    /// Whether it is the first tick.
+    pub first: bool,
+    /// What they had in the tick before.
+    pub words: &'a [u32],
+    /// Which of all outputs the first of them is.
+    pub output: usize,
+}
+
 /// Whether some of the outputs that are left may have this value now. In the first tick none had a value before, else
 /// they had these.
 pub fn can_have(first: bool, left: &[u32], word: u32) -> bool
@@ -36,39 +47,33 @@ fn may_be(first: bool, left: &[u32], k: usize, word: u32) -> bool
     left[k] != word
 }
 
-/// Reads the output of a value: which of those that are left, of which the first is output j.
+/// Reads the output of a value: which of those that are left.
 ///
 /// # Errors
 ///
 /// No output that may have this value stands there.
-pub fn which(
-    bytes: &[u8],
-    at: usize,
-    first: bool,
-    left: &[u32],
-    j: usize,
-    word: u32,
-) -> Result<usize, WaveFault>
+pub fn which(bytes: &[u8], at: usize, left: &Left<'_>, word: u32) -> Result<usize, WaveFault>
     requires place { at ≤ length bytes.now }
-    requires few { j ≤ 64 }
-    ensures within { IfOk result (λ k. (k < length left.now) × (at < length bytes.now)) }
-    ensures goes { (names : List (List ℕ)) (ticks : List (List ℤ)) (now : List ℤ) → length now ≡ j
-        → Continues result
-        (dump_from bytes.now at (Letter (spot_with names ticks now (olds_at first left.now)) (cast_signed w32 word)))
-        (λ k. dump_from bytes.now (at + 1) (literal (10 ∷ []) (body_behind names ticks now first left.now k word))) }
+    requires few { left.now.output ≤ 64 }
+    ensures within { IfOk result (λ k. (k < length left.now.words.now) × (at < length bytes.now)) }
+    ensures goes { (names : List (List ℕ)) (ticks : List (List ℤ)) (now : List ℤ) → length now ≡ left.now.output
+        → Continues result (dump_from bytes.now at
+        (Letter (spot_with names ticks now (olds_at left.now.first left.now.words.now)) (cast_signed w32 word)))
+        (λ k. dump_from bytes.now (at + 1)
+        (literal (10 ∷ []) (body_behind names ticks now left.now.first left.now.words.now k word))) }
 {
     if at >= bytes.len() {
         return Err(WaveFault::Bad { at: at as u64 });
     }
     let letter = usize::from(bytes[at]);
-    if letter < 33 + j {
+    if letter < 33 + left.output {
         return Err(WaveFault::Bad { at: at as u64 });
     }
-    let k = letter - 33 - j;
-    if k >= left.len() {
+    let k = letter - 33 - left.output;
+    if k >= left.words.len() {
         return Err(WaveFault::Bad { at: at as u64 });
     }
-    if may_be(first, left, k, word) {
+    if may_be(left.first, left.words, k, word) {
         return Ok(k);
     }
     Err(WaveFault::Bad { at: at as u64 })

@@ -84,7 +84,8 @@ fn text_access(
     g: u32,
     table: &[AccessCount],
 ) -> Result<AccessCount, OutOfMemory>
-    ensures { IfOk result (λ n. capped_access (access_of n) ≡ capped_access (as_access (scan_effects g (called_access table.now) scan_start effects.now))) }
+    ensures { IfOk result (λ n. capped_access (access_of n) ≡ capped_access
+        (as_access (scan_effects g (called_access table.now) scan_start effects.now))) }
 {
     let mut t = AccessTally {
         own: false,

@@ -48,8 +48,10 @@ fn propagate_call(
     text: CallSites,
 ) -> Result<bool, OutOfMemory>
     ensures same { IfOk result (λ moved. moved ≡ false → SameTables tables.old tables.new) }
-    ensures calls { IfOk result (λ moved. moved ≡ false → plain.is_within site ((site_maps tables.old).calls id) ≡ true) }
-    ensures texts { IfOk result (λ moved. moved ≡ false → plain.is_within text ((site_maps tables.old).texts id) ≡ true) }
+    ensures calls { IfOk result (λ moved. moved ≡ false → plain.is_within site ((site_maps tables.old).calls id)
+        ≡ true) }
+    ensures texts { IfOk result (λ moved. moved ≡ false → plain.is_within text ((site_maps tables.old).texts id)
+        ≡ true) }
 {
     let called = join(&mut tables.calls, id, site)?;
     let stands = join(&mut tables.texts, id, text)?;
@@ -100,7 +102,8 @@ fn propagate_effects(
     tables: &mut SiteTables,
 ) -> Result<bool, OutOfMemory>
     ensures same { IfOk result (λ moved. moved ≡ false → SameTables tables.old tables.new) }
-    ensures settled { IfOk result (λ moved. moved ≡ false → HoldsEffects (site_maps tables.old) f 1 (outermost (site_maps tables.old) f) effects.now) }
+    ensures settled { IfOk result (λ moved. moved ≡ false → HoldsEffects (site_maps tables.old) f 1
+        (outermost (site_maps tables.old) f) effects.now) }
 {
     let calls = at(&tables.calls, f);
     let mut around = OpenInstances {
@@ -175,7 +178,8 @@ pub fn propagate(
     tables: &mut SiteTables,
 ) -> Result<bool, OutOfMemory>
     requires { effects_lists bodies.now ≡ map (item_effects (indexed_text index.now)) (indexed_text index.now) }
-    ensures { IfOk result (λ moved. moved ≡ false → AllSettled (indexed_text index.now) first functions.now (site_maps tables.new)) }
+    ensures { IfOk result (λ moved. moved ≡ false → AllSettled (indexed_text index.now) first functions.now
+        (site_maps tables.new)) }
 {
     let start = CallSites::One {
         site: CallSite {

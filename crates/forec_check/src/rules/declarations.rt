@@ -11,6 +11,8 @@ use crate::walk::context::Context;
 use forec_base::{Labels, MAX_ARRAY_LENGTH, MAX_NAME_BYTES, MAX_TURNS, Place};
 use forec_tree::{Fault, Name, Number, rule};
 
+/// Whether a name, given by its number, has more bytes than a name may have. A number that stands for no name is not
+/// long.
 pub fn is_long(names: &Labels, id: u32) -> bool
     ensures { result ≡ rules.is_long (names.now) id }
 {
@@ -32,6 +34,7 @@ fn outside_bound(n: Number) -> bool
     n.value < 1 || (MAX_TURNS as i32) < n.value
 }
 
+/// Keeps the fault of an array whose length is outside of 1 to the greatest there is; no length is no fault.
 pub fn judge_length(length: Option<Number>, least: &mut Option<Fault>)
     ensures { least.new ≡ least_from least.old (rules.length_faults length) }
 {
@@ -41,6 +44,7 @@ pub fn judge_length(length: Option<Number>, least: &mut Option<Fault>)
     }
 }
 
+/// Whether more values are listed than an array of this length has elements. Without a length none are too many.
 pub fn too_many(length: Option<Number>, values: usize) -> bool
     ensures { result ≡ rules.too_many length values }
 {

@@ -4,6 +4,8 @@ ghost use Rattle.std.specs.Prelude.{◌≡◌, ◌&&◌, not, map};
 ghost use Rattle.forec_tree.specs.Plain as plain;
 ghost use Rattle.forec_tree.specs.Plain.{perhaps_of};
 ghost use Rattle.forec_tree.specs.Rules as rules;
+ghost use Rattle.forec_tree.specs.Rules.{fault_if};
+ghost use Rattle.forec_tree.specs.Turns.{inferred};
 ghost use Rattle.forec_tree.specs.Pauses.{certain, certain_function, certain_perhaps, some_certain, branch_certain};
 ghost use Rattle.forec_check.specs.Least.{least_from};
 ghost use Rattle.loop_check.specs.Judges.{judge_text};
@@ -25,12 +27,36 @@ fn is_endless(bound: Option<Number>, turns: Option<u32>, pausing: bool) -> bool
     !pausing
 }
 
+/// Keeps the fault of a loop that may run for ever, and tells the number of turns of its form.
+fn keep_endless(
+    pauses: &Pauses<'_>,
+    s: &Stmt,
+    bound: Option<Number>,
+    inside: bool,
+    least: &mut Option<Fault>,
+) -> Option<u32>
+    ensures turns { result ≡ inferred (judge_text pauses.now) (plain.statement s.now) }
+    ensures least { least.new ≡ least_from least.old
+        (fault_if (rules.is_none bound
+        && (rules.is_none (inferred (judge_text pauses.now) (plain.statement s.now)) && not inside)) s.now.place 20) }
+{
+    let turns = pauses.turns(s);
+    keep_fault(
+        least,
+        is_endless(bound, turns, inside),
+        s.place,
+        rule::ENDLESS_LOOP,
+    );
+    turns
+}
+
 /// Keeps the least fault of the loops in a statement, those inside first, and tells whether the
 /// statement is certain to pause.
 #[cycle(loops)]
 fn judge_statement(pauses: &Pauses<'_>, s: &Stmt, least: &mut Option<Fault>) -> bool
     ensures certain { result ≡ certain (judge_text pauses.now) (plain.statement s.now) }
-    ensures least { least.new ≡ least_from least.old (loops_faults (judge_text pauses.now) (loops_in (plain.statement s.now))) }
+    ensures least { least.new ≡ least_from least.old (loops_faults (judge_text pauses.now)
+        (loops_in (plain.statement s.now))) }
 {
     match &s.what {
         StmtKind::Nothing => false,
@@ -45,13 +71,7 @@ fn judge_statement(pauses: &Pauses<'_>, s: &Stmt, least: &mut Option<Fault>) -> 
         }
         StmtKind::While { test, bound, body } => {
             let inside = judge_statement(pauses, body, least);
-            let turns = pauses.turns(s);
-            keep_fault(
-                least,
-                is_endless(*bound, turns, inside),
-                s.place,
-                rule::ENDLESS_LOOP,
-            );
+            let _ = keep_endless(pauses, s, *bound, inside, least);
             is_nonzero(test) && inside
         }
         StmtKind::For {
@@ -64,13 +84,7 @@ fn judge_statement(pauses: &Pauses<'_>, s: &Stmt, least: &mut Option<Fault>) -> 
             let _ = judge_optional_statement(pauses, start, least);
             let _ = judge_optional_statement(pauses, step, least);
             let inside = judge_statement(pauses, body, least);
-            let turns = pauses.turns(s);
-            keep_fault(
-                least,
-                is_endless(*bound, turns, inside),
-                s.place,
-                rule::ENDLESS_LOOP,
-            );
+            let turns = keep_endless(pauses, s, *bound, inside, least);
             let runs = always(test) || at_least_one(turns);
             runs && inside
         }
@@ -94,8 +108,10 @@ fn judge_optional_statement(
     s: &Option<Box<Stmt>>,
     least: &mut Option<Fault>,
 ) -> bool
-    ensures certain { result ≡ certain_perhaps (judge_text pauses.now) (certain_function (judge_text pauses.now)) (perhaps_of s.now) }
-    ensures least { least.new ≡ least_from least.old (loops_faults (judge_text pauses.now) (loops_in_perhaps (perhaps_of s.now))) }
+    ensures certain { result ≡ certain_perhaps (judge_text pauses.now) (certain_function (judge_text pauses.now))
+        (perhaps_of s.now) }
+    ensures least { least.new ≡ least_from least.old (loops_faults (judge_text pauses.now)
+        (loops_in_perhaps (perhaps_of s.now))) }
 {
     match s {
         None => false,
@@ -105,8 +121,10 @@ fn judge_optional_statement(
 
 #[cycle(loops)]
 fn judge_statements(pauses: &Pauses<'_>, list: &[Stmt], least: &mut Option<Fault>) -> bool
-    ensures certain { result ≡ some_certain (judge_text pauses.now) (certain_function (judge_text pauses.now)) (plain.statements list.now) }
-    ensures least { least.new ≡ least_from least.old (loops_faults (judge_text pauses.now) (loops_in_all (plain.statements list.now))) }
+    ensures certain { result ≡ some_certain (judge_text pauses.now) (certain_function (judge_text pauses.now))
+        (plain.statements list.now) }
+    ensures least { least.new ≡ least_from least.old (loops_faults (judge_text pauses.now)
+        (loops_in_all (plain.statements list.now))) }
 {
     let mut found = false;
     for s in list {
@@ -119,8 +137,10 @@ fn judge_statements(pauses: &Pauses<'_>, list: &[Stmt], least: &mut Option<Fault
 
 #[cycle(loops)]
 fn judge_branches(pauses: &Pauses<'_>, list: &[Branch], least: &mut Option<Fault>) -> bool
-    ensures certain { result ≡ branch_certain (judge_text pauses.now) (certain_function (judge_text pauses.now)) (plain.branches list.now) }
-    ensures least { least.new ≡ least_from least.old (loops_faults (judge_text pauses.now) (loops_in_branches (plain.branches list.now))) }
+    ensures certain { result ≡ branch_certain (judge_text pauses.now) (certain_function (judge_text pauses.now))
+        (plain.branches list.now) }
+    ensures least { least.new ≡ least_from least.old (loops_faults (judge_text pauses.now)
+        (loops_in_branches (plain.branches list.now))) }
 {
     let mut found = false;
     for branch in list {
@@ -139,7 +159,8 @@ fn judge_branches(pauses: &Pauses<'_>, list: &[Branch], least: &mut Option<Fault
 /// One walk over the text judges each statement once; the form of a `for` is looked for in its body,
 /// which costs a look at it for each `for` round it.
 pub fn judge_loops(pauses: &Pauses<'_>, items: &[Item], least: &mut Option<Fault>)
-    ensures { least.new ≡ least_from least.old (loops_faults (judge_text pauses.now) (all_loops (map plain.plain_item items.now))) }
+    ensures { least.new ≡ least_from least.old (loops_faults (judge_text pauses.now)
+        (all_loops (map plain.plain_item items.now))) }
 {
     for item in items {
         match item {

@@ -36,11 +36,13 @@ fn judge_plain_global(
     item: &Item,
     least: &mut Option<Fault>,
 ) -> Result<(), OutOfMemory>
-    requires bodies { effects_lists bodies.now.effects.now ≡ map (item_effects (program_text symbols.now)) (program_text symbols.now) }
+    requires bodies { effects_lists bodies.now.effects.now ≡ map (item_effects (program_text symbols.now))
+        (program_text symbols.now) }
     requires order { Orders (program_text symbols.now) bodies.now.order.now }
     requires first { start_name (program_names symbols.now) (program_text symbols.now) ≡ Some bodies.now.first }
     requires single { TellsSingle (program_text symbols.now) bodies.now.first single.now }
-    ensures { OnOk result (least.new ≡ least_from least.old (access_fault (program_text symbols.now) (program_names symbols.now) (plain.plain_item item.now))) }
+    ensures { OnOk result (least.new ≡ least_from least.old (access_fault (program_text symbols.now)
+        (program_names symbols.now) (plain.plain_item item.now))) }
 {
     match item {
         Item::Function { .. } => Ok(()),
@@ -80,10 +82,12 @@ pub fn judge_plain_globals(
     least: &mut Option<Fault>,
 ) -> Result<(), OutOfMemory>
     requires items { map plain.plain_item items.now ≡ program_text symbols.now }
-    requires bodies { effects_lists bodies.now.effects.now ≡ map (item_effects (program_text symbols.now)) (program_text symbols.now) }
+    requires bodies { effects_lists bodies.now.effects.now ≡ map (item_effects (program_text symbols.now))
+        (program_text symbols.now) }
     requires order { Orders (program_text symbols.now) bodies.now.order.now }
     requires first { start_name (program_names symbols.now) (program_text symbols.now) ≡ Some bodies.now.first }
-    ensures { OnOk result (least.new ≡ least_from least.old (access_faults (program_text symbols.now) (program_names symbols.now) (program_text symbols.now))) }
+    ensures { OnOk result (least.new ≡ least_from least.old (access_faults (program_text symbols.now)
+        (program_names symbols.now) (program_text symbols.now))) }
 {
     let single = single_access(
         alloc,

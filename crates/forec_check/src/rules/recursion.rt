@@ -69,9 +69,12 @@ fn judge_recursive(
 ) -> Result<(), OutOfMemory>
     requires item { slice_get (program_text symbols.now) at ≡ Some (plain.plain_item item.now) }
     requires read { KnowsCalls (program_text symbols.now) known.now.calls.now }
-    requires free { (g : ℕ) → slice_index_or known.now.free.now g false ≡ true → Leads (callees known.now.calls.now.lists.items) g g → ⊥ }
-    requires kept { IsLeastOrNone least.old (EarlyTo (program_text symbols.now) (program_names symbols.now) (take at (program_text symbols.now))) }
-    ensures { OnOk result (IsLeastOrNone least.new (EarlyTo (program_text symbols.now) (program_names symbols.now) (take (at + 1) (program_text symbols.now)))) }
+    requires free { (g : ℕ) → slice_index_or known.now.free.now g false ≡ true
+        → Leads (callees known.now.calls.now.lists.items) g g → ⊥ }
+    requires kept { IsLeastOrNone least.old (EarlyTo (program_text symbols.now) (program_names symbols.now)
+        (take at (program_text symbols.now))) }
+    ensures { OnOk result (IsLeastOrNone least.new (EarlyTo (program_text symbols.now) (program_names symbols.now)
+        (take (at + 1) (program_text symbols.now)))) }
 {
     match item {
         Item::Global { .. } => Ok(()),

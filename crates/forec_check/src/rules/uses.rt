@@ -47,6 +47,7 @@ fn miscounts(args: Option<usize>, means: Meaning) -> bool
     }
 }
 
+/// Whether a name, given by its number, is `main`.
 pub fn is_main(names: &Labels, id: u32) -> bool
     ensures { result ≡ rules.is_main (names.now) id }
 {

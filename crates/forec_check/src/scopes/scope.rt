@@ -62,7 +62,8 @@ impl Scope {
     pub fn declare(&mut self, id: u32, array: bool) -> Result<(), OutOfMemory>
         ensures scope { OnOk result (scope_of self.new ≡ with_name (scope_of self.old) id array) }
         ensures frame { OnOk result ((self.new.base ≡ self.old.base) × (self.new.start ≡ self.old.start)) }
-        ensures front { OnOk result (take self.old.start self.new.declared.list.items ≡ take self.old.start self.old.declared.list.items) }
+        ensures front { OnOk result (take self.old.start self.new.declared.list.items
+            ≡ take self.old.start self.old.declared.list.items) }
     {
         if !self.is_here(id) {
             self.declared.push(id, array)?;
@@ -89,7 +90,8 @@ impl Scope {
     pub fn hide(&mut self) -> OuterScope
         ensures frame { (result.base ≡ self.old.base) × (result.start ≡ self.old.start) }
         ensures scope { scope_of self.new ≡ no_scope }
-        ensures inside { (self.new.base ≡ length self.old.declared.list.items) × (self.new.start ≡ length self.old.declared.list.items) }
+        ensures inside { (self.new.base ≡ length self.old.declared.list.items)
+            × (self.new.start ≡ length self.old.declared.list.items) }
         ensures list { self.new.declared.list.items ≡ self.old.declared.list.items }
     {
         let outer = OuterScope {

@@ -105,7 +105,8 @@ impl Context<'_, '_> {
 
     fn local(&self, scope: &mut Scope, l: &Local, notes: &mut Notes) -> Result<(), OutOfMemory>
         ensures notes { OnOk result (WalksLocal self.now (scope_of scope.old) l.now notes.old notes.new) }
-        ensures scope { OnOk result (scope_of scope.new ≡ with_name (scope_of scope.old) l.now.name.id (is_array l.now.length)) }
+        ensures scope { OnOk result (scope_of scope.new ≡ with_name (scope_of scope.old) l.now.name.id
+            (is_array l.now.length)) }
         ensures frame { OnOk result (ExtendsScope scope.old scope.new) }
     {
         let again = scope.is_here(l.name.id);
@@ -129,7 +130,8 @@ impl Context<'_, '_> {
         notes: &mut Notes,
     ) -> Result<(), OutOfMemory>
         ensures notes { OnOk result (WalksLocals self.now (scope_of scope.old) list.now notes.old notes.new) }
-        ensures scope { OnOk result (scope_of scope.new ≡ with_locals (scope_of scope.old) (map plain.declared list.now)) }
+        ensures scope { OnOk result (scope_of scope.new ≡ with_locals (scope_of scope.old)
+            (map plain.declared list.now)) }
         ensures frame { OnOk result (ExtendsScope scope.old scope.new) }
     {
         for l in list {
@@ -247,7 +249,8 @@ impl Context<'_, '_> {
         s: &Option<Box<Stmt>>,
         notes: &mut Notes,
     ) -> Result<(), OutOfMemory>
-        ensures notes { OnOk result (WalksOptionalStatement self.now (scopes.inner_scope (scope_of scope.old)) s.now notes.old notes.new) }
+        ensures notes { OnOk result (WalksOptionalStatement self.now (scopes.inner_scope (scope_of scope.old)) s.now
+            notes.old notes.new) }
         ensures same { OnOk result (SameScope scope.old scope.new) }
     {
         match s {
@@ -267,7 +270,8 @@ impl Context<'_, '_> {
         s: &Stmt,
         notes: &mut Notes,
     ) -> Result<(), OutOfMemory>
-        ensures notes { OnOk result (WalksStatement self.now (scopes.inner_scope (scope_of scope.old)) s.now notes.old notes.new) }
+        ensures notes { OnOk result (WalksStatement self.now (scopes.inner_scope (scope_of scope.old)) s.now notes.old
+            notes.new) }
         ensures same { OnOk result (SameScope scope.old scope.new) }
     {
         let outer = scope.enter();
@@ -296,7 +300,8 @@ impl Context<'_, '_> {
     /// Statements in a scope of their own.
     #[cycle(statement)]
     fn block(&self, scope: &mut Scope, body: &[Stmt], notes: &mut Notes) -> Result<(), OutOfMemory>
-        ensures notes { OnOk result (WalksStatements self.now (scopes.inner_scope (scope_of scope.old)) body.now notes.old notes.new) }
+        ensures notes { OnOk result (WalksStatements self.now (scopes.inner_scope (scope_of scope.old)) body.now
+            notes.old notes.new) }
         ensures same { OnOk result (SameScope scope.old scope.new) }
     {
         let outer = scope.enter();

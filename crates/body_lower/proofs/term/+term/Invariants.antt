@@ -4,7 +4,7 @@ use Rattle.forec_kernel.specs.Plain.{exprs}
 use Rattle.loop_check.specs.Views.{indexed_text}
 use Rattle.body_lower.specs.Views.{seen}
 use Rattle.text_kernel.specs.Lowering as lowering
-use Rattle.body_lower.proofs.Lists.{joined}
+use Rattle.forec_kernel.proofs.VecTerms.{joined}
 use Rattle.body_lower.proofs.term.+term.Given as goal
 
 abbrev pub invariant-lower_terms-loop-e : goal.invariant-lower_terms-loop-e

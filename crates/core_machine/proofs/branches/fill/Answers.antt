@@ -1,11 +1,11 @@
 use Rattle.std.proofs.Common.{◌≡◌, ◌+◌, ◌<◌, ◌++◌, ◌∷◌, [], ◌∙◌, ℕ, List, ap, sym, subst, refl, arith, length, take, length-set, true, false, append-nil}
 use Rattle.forec_kernel.specs.Shapes.{plain_shape}
 use Rattle.thread_code.specs.Valid.{branches_in}
-use Rattle.thread_state.specs.Pars.{Links, first_of, sibling_at, Lead}
+use Rattle.thread_state.specs.Pars.{Links, Lead}
 use Rattle.core_machine.specs.Branches.{chosen}
 use Rattle.thread_state.proofs.Shapes.{few_branches}
 use Rattle.core_machine.proofs.Gathering.{chosen_next, chosen_none, one_chosen}
-use Rattle.thread_state.proofs.Links.{Ahead, ahead, behind_last, left_of, left_falls}
+use Rattle.thread_state.proofs.Links.{Ahead, first_leads, ahead, behind_last, next_falls}
 use Rattle.core_machine.proofs.branches.fill.Goals as goal
 use Rattle.core_machine.proofs.branches.fill.Goals.{In-Some, then-is_chosen, else-is_chosen}
 
@@ -15,15 +15,12 @@ take_none (x ∷ xs) = refl
 
 pub loop-next-init : goal.loop-next-init
 loop-next-init c =
-    let s = plain_shape c.args.shape.now in
-    let j = c.args.par in
-    let p = c.pars-pars.result.now in
-    let bs = branches_in s j in
+    let bs = branches_in (plain_shape c.args.shape.now) c.args.par in
     record {
       rest = bs;
-      lead = subst (λ o. Lead s p.siblings o bs) (sym c.first-next.ensures) (subst (λ (p : Links). Lead s p.siblings (first_of p j) bs) (sym c.pars-pars.ensures) (c.requires.pars.lead j));
+      lead = first_leads _ bs c.args.par c.first-next.ensures c.pars-pars.ensures (c.requires.pars.lead c.args.par);
       long = refl;
-      count = omega (arith, few_branches s.threads 0 j, c.requires.room);
+      count = omega (arith, few_branches (plain_shape c.args.shape.now).threads 0 c.args.par, c.requires.room);
       front = ap (λ l. l ++ chosen c.args.again c.args.own.now.live bs) (take_none c.args.numbers.now);
     }
 
@@ -42,11 +39,7 @@ pub next-next-requires : goal.next-next-requires
 next-next-requires c = (found (goal.at.next-next-requires c).In-Some).link.within
 
 pub loop-next-smaller : goal.loop-next-smaller
-loop-next-smaller c =
-    let a = found (goal.at.loop-next-smaller c).In-Some in
-    let left = left_of (plain_shape c.args.shape.now) c.pars-pars.result.now.siblings in
-    subst (λ o. left o < left c.loop-next.next) (sym c.next-next.ensures)
-    (subst (λ o. left (sibling_at c.pars-pars.result.now.siblings c.in-Some.branch).next < left o) (sym c.in-Some.is) (left_falls (plain_shape c.args.shape.now) c.pars-pars.result.now.siblings c.in-Some.branch a.rest a.link))
+loop-next-smaller c = next_falls (plain_shape c.args.shape.now) _ (found (goal.at.loop-next-smaller c).In-Some).link c.in-Some.is c.next-next.ensures
 
 pub loop-next-preserved : goal.loop-next-preserved
 loop-next-preserved c =

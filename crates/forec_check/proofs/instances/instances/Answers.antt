@@ -2,8 +2,8 @@ use Rattle.std.proofs.Common.{◌∙◌, ◌-◌, ◌^◌, sym, ap, subst, min}
 use Rattle.forec_tree.specs.Pauses.{callees_of}
 use Rattle.forec_tree.specs.Faults.{Leads}
 use Rattle.forec_tree.specs.Threads as threads
-use Rattle.loop_check.specs.Graph.{callees, IsOrder}
 use Rattle.loop_check.specs.Views.{indexed_text}
+use Rattle.loop_check.proofs.Ordered.{order_lent}
 use Rattle.forec_check.specs.Table.{Settles}
 use Rattle.forec_check.specs.Instances.{count_at, capped_below, count_of}
 use Rattle.forec_check.proofs.InstanceCounts.{counts_settle, counted_all}
@@ -12,13 +12,8 @@ use Rattle.forec_check.proofs.instances.instances.Goals as goal
 pub counts-requires : goal.counts-requires
 counts-requires c =
     let text = indexed_text c.in_ok-index.index in
-    let functions = c.in_ok-calls.calls.functions.items in
-    let lists = c.in_ok-calls.calls.lists.items in
-    let order = c.in_ok-order.order.items in
-    let ordered : IsOrder functions (callees lists) order =
-    subst (λ l. IsOrder functions (callees l) order) c.deref-2.ensures.value (subst (λ f. IsOrder f (callees c.deref-2.result.now) order) c.deref.ensures.value c.in_ok-order.ensures) in
     subst (λ o. Settles 0 (capped_below text) (count_of text) o) (sym c.deref-3.ensures.value)
-    (counts_settle text functions order (callees lists) c.in_ok-calls.ensures ordered (λ f l. c.requires f (subst (λ t. Leads (callees_of t) f f) c.in_ok-index.ensures l)))
+    (counts_settle text _ _ _ c.in_ok-calls.ensures (order_lent c.deref.ensures.value c.deref-2.ensures.value c.in_ok-order.ensures) (λ f l. c.requires f (subst (λ t. Leads (callees_of t) f f) c.in_ok-index.ensures l)))
 
 pub returns : goal.returns
 returns c =

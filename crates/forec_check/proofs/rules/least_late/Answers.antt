@@ -2,9 +2,9 @@ use Rattle.std.proofs.Common.{◌∙◌, sym, ap, subst, map}
 use Rattle.forec_tree.specs.Plain as plain
 use Rattle.forec_tree.specs.Pauses.{callees_of}
 use Rattle.forec_tree.specs.Faults.{Leads}
-use Rattle.loop_check.specs.Graph.{callees, IsOrder}
 use Rattle.loop_check.specs.Judges.{judge_text}
 use Rattle.loop_check.specs.Views.{indexed_text}
+use Rattle.loop_check.proofs.Ordered.{order_lent}
 use Rattle.forec_check.specs.AccessCounts.{Orders}
 use Rattle.forec_check.specs.Loops.{all_loops}
 use Rattle.forec_check.proofs.Acyclic.{no_circle, no_reach}
@@ -15,12 +15,7 @@ use Rattle.forec_check.proofs.rules.least_late.Goals as goal
 pub judge_accesses-requires-clause-order : goal.judge_accesses-requires-clause-order
 judge_accesses-requires-clause-order c =
     let text = indexed_text c.args.index.now in
-    let functions = c.args.calls.now.functions.items in
-    let lists = c.args.calls.now.lists.items in
-    let order = c.in_ok-order.order.items in
-    let ordered : IsOrder functions (callees lists) order =
-    subst (λ l. IsOrder functions (callees l) order) c.deref-2.ensures.value (subst (λ f. IsOrder f (callees c.deref-2.result.now) order) c.deref.ensures.value c.in_ok-order.ensures) in
-    subst (λ o. Orders text o) (sym c.deref-4.ensures.value) (orders_is text functions order (callees lists) c.requires.read ordered (no_reach text c.args.names.now c.requires.early))
+    subst (λ o. Orders text o) (sym c.deref-4.ensures.value) (orders_is text _ _ _ c.requires.read (order_lent c.deref.ensures.value c.deref-2.ensures.value c.in_ok-order.ensures) (no_reach text c.args.names.now c.requires.early))
 
 pub of-requires : goal.of-requires
 of-requires c = λ f l. no_circle (indexed_text c.args.index.now) c.args.names.now c.requires.early f (subst (λ t. Leads (callees_of t) f f) c.requires.items l)

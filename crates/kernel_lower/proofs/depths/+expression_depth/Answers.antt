@@ -1,7 +1,7 @@
 use Rattle.std.proofs.Common.{◌≡◌, ◌∙◌, ◌+◌, ◌-◌, ◌^◌, min, arith}
 use Rattle.forec_kernel.specs.Plain.{exprs}
 use Rattle.forec_kernel.specs.WellFormed.{expr_depth, exprs_depth}
-use Rattle.kernel_lower.proofs.Tallying.{of_call}
+use Rattle.kernel_calls.proofs.Formed.{of_call}
 use Rattle.kernel_lower.proofs.depths.+expression_depth.Goals as goal
 
 pub expression_depth-returns-in-Call : goal.expression_depth-returns-in-Call

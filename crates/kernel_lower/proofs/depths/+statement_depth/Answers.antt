@@ -1,7 +1,7 @@
 use Rattle.std.proofs.Common.{◌≡◌, ◌∙◌, ◌+◌, ◌-◌, ◌^◌, min, arith}
 use Rattle.forec_kernel.specs.Plain.{stmts}
 use Rattle.forec_kernel.specs.WellFormed.{stmt_depth, stmts_depth}
-use Rattle.kernel_lower.proofs.Tallying.{of_sequence}
+use Rattle.kernel_calls.proofs.Formed.{of_sequence}
 use Rattle.kernel_lower.proofs.depths.+statement_depth.Goals as goal
 
 pub statement_depth-returns-in-Sequence : goal.statement_depth-returns-in-Sequence

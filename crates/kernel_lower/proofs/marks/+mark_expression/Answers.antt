@@ -5,7 +5,8 @@ use Rattle.forec_kernel.specs.WellFormed.{count_up}
 use Rattle.text_kernel.specs.Lowering.{vars_in, vars_all}
 use Rattle.kernel_lower.specs.Marks.{is_marked}
 use Rattle.body_lower.proofs.Statements.{drop_next}
-use Rattle.kernel_lower.proofs.Tallying.{of_call, marks_two, marks_as, marks_step}
+use Rattle.kernel_calls.proofs.Formed.{of_call}
+use Rattle.kernel_lower.proofs.Tallying.{marks_two, marks_as, marks_step}
 use Rattle.std.proofs.Common.{◌+◌, ◌||◌, drop, length, arith}
 use Rattle.kernel_lower.proofs.marks.+mark_expression.Goals as goal
 

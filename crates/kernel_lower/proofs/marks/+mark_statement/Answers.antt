@@ -5,7 +5,8 @@ use Rattle.forec_kernel.specs.WellFormed.{count_up}
 use Rattle.text_kernel.specs.Lowering.{vars_in, vars_of, vars_list}
 use Rattle.kernel_lower.specs.Marks.{is_marked}
 use Rattle.body_lower.proofs.Statements.{drop_next}
-use Rattle.kernel_lower.proofs.Tallying.{of_sequence, marks_two, marks_as, marks_step}
+use Rattle.kernel_calls.proofs.Formed.{of_sequence}
+use Rattle.kernel_lower.proofs.Tallying.{marks_two, marks_as, marks_step}
 use Rattle.kernel_lower.proofs.marks.+mark_statement.Goals as goal
 
 pub mark_list-loop-s-preserved : goal.mark_list-loop-s-preserved

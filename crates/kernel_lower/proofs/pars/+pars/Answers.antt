@@ -1,7 +1,7 @@
 use Rattle.std.proofs.Common.{◌∙◌, ◌++◌, map}
 use Rattle.forec_kernel.specs.WellFormed.{pars_of}
 use Rattle.kernel_lower.specs.Reach.{list_items}
-use Rattle.kernel_lower.proofs.Tallying.{of_sequence}
+use Rattle.kernel_calls.proofs.Formed.{of_sequence}
 use Rattle.kernel_lower.proofs.pars.+pars.Goals as goal
 
 pub pars-returns-in_ok-list_pars-in-Sequence : goal.pars-returns-in_ok-list_pars-in-Sequence

@@ -1,9 +1,9 @@
 use Rattle.std.proofs.Common.{◌≡◌, false}
 use Rattle.forec_kernel.specs.Shapes.{plain_kernel}
 use Rattle.forec_kernel.specs.Texts.{some_running}
+use Rattle.forec_kernel.proofs.Commute.{fork_quiet}
 use Rattle.running_threads.specs.Views.{threads}
 use Rattle.kernel_meaning.proofs.Stepping.{finishes, halts}
-use Rattle.kernel_meaning.proofs.Threads.{fork_joins}
 use Rattle.kernel_meaning.proofs.steps.focus_step.Goals as goal
 
 pub returns-in-Done : goal.returns-in-Done
@@ -25,5 +25,5 @@ pub returns-in-Fork : goal.returns-in-Fork
 returns-in-Fork c = λ path.
     let same : c.deref.result.now ≡ c.in-Fork.children.value = c.deref.ensures in
     let none : some_running (threads c.in-Fork.children.value) ≡ false = rw c.in-Fork.is at c.requires in
-    rw (c.in-Fork.is, fork_joins (plain_kernel c.args.kernel.now) path c.args.values.now.uses.now c.args.values.now.words.now c.args.values.now.copies.now (threads c.in-Fork.children.value) none)
+    rw (c.in-Fork.is, fork_quiet (plain_kernel c.args.kernel.now) path c.args.values.now.uses.now c.args.values.now.words.now c.args.values.now.copies.now (threads c.in-Fork.children.value) none)
     (rw same at c.join_step.ensures)

@@ -1,15 +1,11 @@
-use Rattle.std.proofs.Common.{rules, arith, ◌≡◌, ◌+◌, ◌++◌, ◌∷◌, [], ℕ, suc, List, length, map, refl, ap, ◌∙◌, sym, subst, true, Some, slice_get, add-one}
+use Rattle.std.proofs.Common.{rules, arith, ◌≡◌, ◌+◌, ◌++◌, ◌∷◌, [], ℕ, suc, length, map, refl, ap, ◌∙◌, sym, subst, true, add-one}
 use Rattle.std.specs.Result.{is_ok}
 use Rattle.std.proofs.lemmas.Grind.{common_steps}
 use Rattle.copy_slots.specs.SeatEnds.{Watches}
 use Rattle.slot_board.specs.declared.seats.CoreSeats.{CoreSeats}
 use Rattle.slot_board.specs.Dealt.{new_ports, seats_state, spare_role}
-use Rattle.slot_board.proofs.Cutting.{cut_waits, core_fits, core_is, fit_more, map_snoc}
+use Rattle.slot_board.proofs.Cutting.{cut_waits, core_fits, core_is, fit_more, map_snoc, none_there}
 use Rattle.slot_board.proofs.dealing.deal_cores.Goals as goal
-
-none_there : {A : Type 0} (l : List A) (j : ℕ) (s : A) → l ≡ [] → slice_get l j ≡ Some s → ⊥
-none_there [] j s e h = absurd (cc)
-none_there (x ∷ l) j s e h = absurd (cc)
 
 pub loop-core-init : goal.loop-core-init
 loop-core-init g c bs w h = (w, h, (λ j s e. absurd (none_there c.new-hands.result.items j s c.new-hands.ensures.items e)), ap (λ l. map (seats_state c.args.top.now.table_id c.args.top.now.key.work.value) l) c.new-hands.ensures.items)

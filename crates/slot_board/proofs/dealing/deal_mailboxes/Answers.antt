@@ -1,15 +1,11 @@
-use Rattle.std.proofs.Common.{rules, arith, ◌≡◌, ◌<◌, ℕ, List, length, length-append, [], ◌∷◌, ◌++◌, Some, slice_get, sym, ap, ◌∙◌, subst, true, false}
+use Rattle.std.proofs.Common.{rules, arith, ◌≡◌, ◌<◌, length, length-append, [], ◌∷◌, ◌++◌, sym, ap, ◌∙◌, subst, true, false}
 use Rattle.copy_slots.specs.declared.view.Role.TheVariants.{Keeper}
 use Rattle.std.specs.Result.{is_ok}
 use Rattle.std.proofs.lemmas.Grind.{common_steps}
 use Rattle.copy_slots.specs.SeatEnds.{Watches}
 use Rattle.slot_board.specs.Dealt.{AllNew}
-use Rattle.slot_board.proofs.Cutting.{new_more}
+use Rattle.slot_board.proofs.Cutting.{new_more, none_there}
 use Rattle.slot_board.proofs.dealing.deal_mailboxes.Goals as goal
-
-none_there : {A : Type 0} (l : List A) (j : ℕ) (s : A) → l ≡ [] → slice_get l j ≡ Some s → ⊥
-none_there [] j s e h = absurd (cc)
-none_there (x ∷ l) j s e h = absurd (cc)
 
 pub loop-from-init : goal.loop-from-init
 loop-from-init g c = record {

@@ -1,6 +1,6 @@
 use Rattle.std.proofs.Common.{sym, subst}
-use Rattle.loop_check.specs.Graph.{callees, IsOrder}
 use Rattle.loop_check.specs.Views.{indexed_text}
+use Rattle.loop_check.proofs.Ordered.{order_lent}
 use Rattle.forec_check.specs.Table.{Settles}
 use Rattle.text_sizes.specs.Extents.{capped_size}
 use Rattle.text_sizes.specs.Spans.{no_span, span_step, span_value}
@@ -10,10 +10,5 @@ use Rattle.text_sizes.proofs.widths.spans.Goals as goal
 pub table_of-requires : goal.table_of-requires
 table_of-requires c =
     let text = indexed_text c.args.index.now in
-    let functions = c.in_ok-calls.calls.functions.items in
-    let lists = c.in_ok-calls.calls.lists.items in
-    let order = c.in_ok-order.order.items in
-    let ordered : IsOrder functions (callees lists) order =
-    subst (λ l. IsOrder functions (callees l) order) c.deref-2.ensures.value (subst (λ f. IsOrder f (callees c.deref-2.result.now) order) c.deref.ensures.value c.in_ok-order.ensures) in
     subst (λ o. Settles no_span (span_step capped_size text) (span_value text) o) (sym c.deref-3.ensures.value)
-    (spans_settle text functions order (callees lists) c.in_ok-calls.ensures ordered c.requires)
+    (spans_settle text _ _ _ c.in_ok-calls.ensures (order_lent c.deref.ensures.value c.deref-2.ensures.value c.in_ok-order.ensures) c.requires)

@@ -1,41 +1,33 @@
-use Rattle.std.proofs.Common.{◌<◌, length, arith}
+use Rattle.std.proofs.Common.{ℕ, arith}
 use Rattle.std.proofs.lemmas.List.{length-map}
 use Rattle.forec_kernel.specs.Plain.{stmt}
 use Rattle.tick_bounds.proofs.Visiting.{Read, callee_falls, visited}
+use Rattle.tick_bounds.proofs.functions.+visit.Goals.{After-deref-callee-items}
 use Rattle.tick_bounds.proofs.functions.+visit.Goals as goal
 
-pub visit-requires : goal.visit-requires
-visit-requires t c =
-    let kernel = c.args.kernel.now in
-    let inside : c.args.function < length kernel.functions.items = omega (arith, length-map kernel.functions.items stmt) in
-    let read : Read kernel c.parts.result.now c.args.function c.index-body.result.now c.deref-callee-items.result.now c.statement_calls.new.calls.items c.new-calls.result.items =
+-- the body as it was read, with its calls
+read : (t : ℕ) (c : After-deref-callee-items t) →
+    Read c.args.kernel.now c.parts.result.now c.args.function c.index-body.result.now c.deref-callee-items.result.now c.statement_calls.new.calls.items c.new-calls.result.items
+read t c =
     record {
-      within = inside;
+      within = omega (arith, length-map c.args.kernel.now.functions.items stmt);
       same = c.parts.ensures.same;
       is = c.index-body.ensures;
       empty = c.new-calls.ensures.items;
       adds = c.in_ok-statement_calls.ensures;
       lent = c.deref-callee-items.ensures.value;
-    } in
-    let h = callee_falls kernel c.parts.result.now c.parts.ensures.well_formed c.args.function c.index-body.result.now c.deref-callee-items.result.now c.statement_calls.new.calls.items c.new-calls.result.items read c.loop-callee.callee-index c.loop-callee-test.true in
+    }
+
+pub visit-requires : goal.visit-requires
+visit-requires t c =
+    let h = callee_falls c.args.kernel.now _ c.parts.ensures.well_formed c.args.function _ _ _ _ (read t (goal.at.visit-requires t c).After-deref-callee-items) c.loop-callee.callee-index c.loop-callee-test.true in
     let d = c.decreases in
     (omega arith, c.loop-callee.invariant.right)
 
 pub returns : goal.returns
 returns t c =
-    let kernel = c.args.kernel.now in
-    let inside : c.args.function < length kernel.functions.items = omega (arith, length-map kernel.functions.items stmt) in
-    let read : Read kernel c.parts.result.now c.args.function c.index-body.result.now c.deref-callee-items.result.now c.statement_calls.new.calls.items c.new-calls.result.items =
-    record {
-      within = inside;
-      same = c.parts.ensures.same;
-      is = c.index-body.ensures;
-      empty = c.new-calls.ensures.items;
-      adds = c.in_ok-statement_calls.ensures;
-      lent = c.deref-callee-items.ensures.value;
-    } in
-    let now = visited kernel c.parts.result.now c.parts.ensures.well_formed c.args.function c.index-body.result.now c.deref-callee-items.result.now c.statement_calls.new.calls.items c.new-calls.result.items read c.loop-callee.known.items c.as_slice.result.now c.statement_bound-bound.result c.loop-callee.invariant.right
-    (λ j l. c.loop-callee.invariant.told j (omega arith)) c.as_slice.ensures.value c.statement_bound-bound.ensures in
+    let now = visited c.args.kernel.now _ c.parts.ensures.well_formed c.args.function _ _ _ _ (read t (goal.at.returns t c).After-deref-callee-items) c.loop-callee.known.items c.as_slice.result.now c.statement_bound-bound.result
+    c.loop-callee.invariant.right (λ j l. c.loop-callee.invariant.told j (omega arith)) c.as_slice.ensures.value c.statement_bound-bound.ensures in
     record {
       right = now.0;
       told = now.1;

@@ -1,6 +1,6 @@
 use Rattle.std.proofs.Common.{sym, subst, refl}
 use Rattle.thread_code.specs.Plain.{PlainCode, plain_code}
-use Rattle.one_core.specs.Single.{code_of, OneCoreHasRun}
+use Rattle.one_core.specs.Single.{single_code, OneCoreHasRun}
 use Rattle.trace_runs.proofs.Following.{code_starts}
 use Rattle.trace_runs.proofs.hosting.lead_alone.Goals as goal
 
@@ -14,4 +14,4 @@ lead-requires g c = record {
 pub returns-clause-ok : goal.returns-clause-ok
 returns-clause-ok g c = λ k formed stands.
     let one = c.in_ok-one.one in
-    c.lead.ensures k (code_starts (plain_code c.args.code.now) (code_of one) (OneCoreHasRun one) k c.in_ok-one.ensures.code formed stands c.in_ok-one.ensures.none.turns)
+    c.lead.ensures k (code_starts (plain_code c.args.code.now) (single_code one) (OneCoreHasRun one) k c.in_ok-one.ensures.code formed stands c.in_ok-one.ensures.none.turns)

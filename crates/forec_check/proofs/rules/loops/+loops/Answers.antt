@@ -1,20 +1,25 @@
-use Rattle.std.proofs.Common.{◌+◌, ◌≡◌, ◌∙◌, ◌&&◌, ◌||◌, sym, ap, refl, not, Bool, false, true, [], ◌∷◌, ◌++◌, drop, add-one}
+use Rattle.std.proofs.Common.{ℕ, ◌+◌, ◌≡◌, ◌∙◌, ◌&&◌, ◌||◌, sym, ap, refl, not, Bool, false, true, Option, [], ◌∷◌, ◌++◌, drop, add-one}
 use Rattle.std.proofs.Math.Seq.{drop-cons}
 use Rattle.std.proofs.lemmas.List.{drop_all}
+use Rattle.forec_tree.specs.declared.fault.Fault.{Fault}
 use Rattle.forec_tree.specs.declared.tree.Stmt.{Stmt}
 use Rattle.forec_tree.specs.declared.tree.StmtKind.{While}
 use Rattle.forec_tree.specs.Plain as plain
-use Rattle.forec_tree.specs.Terms.{Statement, For, Branches}
+use Rattle.forec_tree.specs.Terms.{Text, Statement, For, Branches}
 use Rattle.forec_tree.specs.Pauses.{certain, certain_function, some_certain, branch_certain}
 use Rattle.forec_check.specs.Least.{least_from}
 use Rattle.forec_tree.proofs.Rows.{of_kind, of_group, of_abort, of_par, of_if, of_for}
 use Rattle.forec_tree.specs.Plain.{perhaps_of}
 use Rattle.loop_check.specs.Judges.{judge_text}
 use Rattle.forec_check.specs.Loops.{loops_in, loops_in_perhaps, loops_in_all, loops_in_branches, loops_faults}
-use Rattle.forec_check.proofs.LoopLemmas.{none_here, kind_none, two_loops, endless_is, last_loop, next_loops, or_next}
+use Rattle.forec_check.proofs.LoopLemmas.{none_here, kind_none, two_loops, last_loop, next_loops, or_next}
 use Rattle.loop_check.proofs.Branches.{call_first, group_first}
 use Rattle.forec_check.proofs.rules.loops.+loops.Goals as goal
-use Rattle.forec_check.proofs.rules.loops.+loops.Goals.{judge_statements-then-judge_statement, judge_statements-else-judge_statement, judge_branches-in-Call, judge_branches-in-Group, judge_branches-then-one, judge_branches-else-one}
+use Rattle.forec_check.proofs.rules.loops.+loops.Goals.{judge_statement-After-judge_optional_statement-second, judge_statement-After-keep_endless, judge_statement-After-keep_endless-turns, judge_statement-After-judge_statements-inside, judge_statements-then-judge_statement, judge_statements-else-judge_statement, judge_branches-in-Call, judge_branches-in-Group, judge_branches-then-one, judge_branches-else-one}
+
+-- the least fault, with those of the loops in a statement
+abbrev least_of : Text → Option Fault → Statement → Option Fault
+least_of text least s = least_from least (loops_faults text (loops_in s))
 
 pub judge_statement-returns-in-Nothing-clause-least : goal.judge_statement-returns-in-Nothing-clause-least
 judge_statement-returns-in-Nothing-clause-least t c = kind_none (judge_text c.args.pauses.now) c.args.least.now c.args.s.now _ c.in-Nothing.is refl
@@ -40,8 +45,7 @@ judge_statement-returns-in-Group-clause-certain t c =
 
 pub judge_statement-returns-in-Group-clause-least : goal.judge_statement-returns-in-Group-clause-least
 judge_statement-returns-in-Group-clause-least t c =
-    let F = λ (x : Statement). least_from c.args.least.now (loops_faults (judge_text c.args.pauses.now) (loops_in x)) in
-    c.judge_statements.ensures.least ∙ of_group F c.args.s.now c.in-Group.body c.as_slice.result.now c.in-Group.is c.as_slice.ensures
+    c.judge_statements.ensures.least ∙ of_group (least_of (judge_text c.args.pauses.now) c.args.least.now) c.args.s.now c.in-Group.body c.as_slice.result.now c.in-Group.is c.as_slice.ensures
 
 pub judge_statement-returns-in-Par-clause-certain : goal.judge_statement-returns-in-Par-clause-certain
 judge_statement-returns-in-Par-clause-certain t c =
@@ -49,98 +53,69 @@ judge_statement-returns-in-Par-clause-certain t c =
 
 pub judge_statement-returns-in-Par-clause-least : goal.judge_statement-returns-in-Par-clause-least
 judge_statement-returns-in-Par-clause-least t c =
-    let F = λ (x : Statement). least_from c.args.least.now (loops_faults (judge_text c.args.pauses.now) (loops_in x)) in
-    c.judge_branches.ensures.least ∙ of_par F c.args.s.now c.in-Par.branches c.as_slice-in-Par.result.now c.in-Par.is c.as_slice-in-Par.ensures
+    c.judge_branches.ensures.least ∙ of_par (least_of (judge_text c.args.pauses.now) c.args.least.now) c.args.s.now c.in-Par.branches c.as_slice-in-Par.result.now c.in-Par.is c.as_slice-in-Par.ensures
+
+-- the least fault after an `if`, a `while` and a `for`, whether they pause or not
+if_least : (t : ℕ) (c : judge_statement-After-judge_optional_statement-second t) → c.judge_optional_statement-second.new.least ≡ least_of (judge_text c.args.pauses.now) c.args.least.now (plain.statement c.args.s.now)
+if_least t c =
+    let text = judge_text c.args.pauses.now in
+    let F = least_of text c.args.least.now in
+    two_loops text c.args.least.now c.judge_statement-first.new.least c.judge_optional_statement-second.new.least (loops_in (plain.statement c.in-If.yes.value)) (loops_in_perhaps (perhaps_of c.in-If.no))
+    (c.judge_statement-first.ensures.least ∙ ap (λ (x : Stmt). F (plain.statement x)) c.deref.ensures) c.judge_optional_statement-second.ensures.least
+    ∙ of_if F c.args.s.now c.in-If.test c.in-If.yes c.in-If.no c.in-If.is
+
+while_least : (t : ℕ) (c : judge_statement-After-keep_endless t) → c.keep_endless.new.least ≡ least_of (judge_text c.args.pauses.now) c.args.least.now (plain.statement c.args.s.now)
+while_least t c =
+    let text = judge_text c.args.pauses.now in
+    let s = c.args.s.now in
+    let F = least_of text c.args.least.now in
+    let w = plain.statement_at (While c.in-While.test c.in-While.bound c.in-While.body) s.place in
+    let is : plain.statement s ≡ w = sym (of_kind (λ x. x) s (While c.in-While.test c.in-While.bound c.in-While.body) c.in-While.is) in
+    two_loops text c.args.least.now c.judge_statement-inside.new.least c.keep_endless.new.least (loops_in (plain.statement c.in-While.body.value)) (w ∷ [])
+    (c.judge_statement-inside.ensures.least ∙ ap (λ (x : Stmt). F (plain.statement x)) c.deref-in-While.ensures)
+    (last_loop text c.judge_statement-inside.new.least _ c.in-While.bound _ _ (plain.statement s) w (plain.statement c.in-While.body.value) c.keep_endless.ensures.least
+    (c.judge_statement-inside.ensures.certain ∙ ap (λ (x : Stmt). certain text (plain.statement x)) c.deref-in-While.ensures) is refl refl)
+    ∙ of_kind F s (While c.in-While.test c.in-While.bound c.in-While.body) c.in-While.is
+
+for_least : (t : ℕ) (c : judge_statement-After-keep_endless-turns t) → c.keep_endless-turns.new.least ≡ least_of (judge_text c.args.pauses.now) c.args.least.now (plain.statement c.args.s.now)
+for_least t c =
+    let text = judge_text c.args.pauses.now in
+    let s = c.args.s.now in
+    let F = least_of text c.args.least.now in
+    let first = loops_in_perhaps (perhaps_of c.in-For.start) in
+    let step = loops_in_perhaps (perhaps_of c.in-For.step) in
+    let inside = loops_in (plain.statement c.in-For.body.value) in
+    let w = For s.place (perhaps_of c.in-For.start) (plain.optional_term c.in-For.test) (perhaps_of c.in-For.step) c.in-For.bound (plain.statement c.in-For.body.value) in
+    let is : plain.statement s ≡ w = sym (of_for (λ x. x) s c.in-For.start c.in-For.step c.in-For.test c.in-For.bound c.in-For.body c.in-For.is) in
+    let k0 = c.args.least.now in
+    let k1 = c.judge_optional_statement.new.least in
+    let k2 = c.judge_optional_statement-in-For.new.least in
+    let k3 = c.judge_statement-inside-in-For.new.least in
+    let body = c.judge_statement-inside-in-For.ensures.least ∙ ap (λ (x : Stmt). least_from k2 (loops_faults text (loops_in (plain.statement x)))) c.deref-in-For.ensures in
+    let e = c.keep_endless-turns.new.least in
+    let last = last_loop text k3 e c.in-For.bound _ _ (plain.statement s) w (plain.statement c.in-For.body.value) c.keep_endless-turns.ensures.least
+    (c.judge_statement-inside-in-For.ensures.certain ∙ ap (λ (x : Stmt). certain text (plain.statement x)) c.deref-in-For.ensures) is refl refl in
+    two_loops text k0 k1 e first (step ++ (inside ++ w ∷ [])) c.judge_optional_statement.ensures.least
+    (two_loops text k1 k2 e step (inside ++ w ∷ []) c.judge_optional_statement-in-For.ensures.least (two_loops text k2 k3 e inside (w ∷ []) body last))
+    ∙ of_for F s c.in-For.start c.in-For.step c.in-For.test c.in-For.bound c.in-For.body c.in-For.is
 
 pub judge_statement-returns-then-first-clause-least : goal.judge_statement-returns-then-first-clause-least
-judge_statement-returns-then-first-clause-least t c =
-    let text = judge_text c.args.pauses.now in
-    let F = λ (x : Statement). least_from c.args.least.now (loops_faults text (loops_in x)) in
-    two_loops text c.args.least.now c.judge_statement-first.new.least c.judge_optional_statement-second.new.least (loops_in (plain.statement c.in-If.yes.value)) (loops_in_perhaps (perhaps_of c.in-If.no))
-    (c.judge_statement-first.ensures.least ∙ ap (λ (x : Stmt). F (plain.statement x)) c.deref.ensures) c.judge_optional_statement-second.ensures.least
-    ∙ of_if F c.args.s.now c.in-If.test c.in-If.yes c.in-If.no c.in-If.is
+judge_statement-returns-then-first-clause-least t c = if_least t (goal.at.judge_statement-returns-then-first-clause-least t c).After-judge_optional_statement-second
 
 pub judge_statement-returns-else-first-clause-least : goal.judge_statement-returns-else-first-clause-least
-judge_statement-returns-else-first-clause-least t c =
-    let text = judge_text c.args.pauses.now in
-    let F = λ (x : Statement). least_from c.args.least.now (loops_faults text (loops_in x)) in
-    two_loops text c.args.least.now c.judge_statement-first.new.least c.judge_optional_statement-second.new.least (loops_in (plain.statement c.in-If.yes.value)) (loops_in_perhaps (perhaps_of c.in-If.no))
-    (c.judge_statement-first.ensures.least ∙ ap (λ (x : Stmt). F (plain.statement x)) c.deref.ensures) c.judge_optional_statement-second.ensures.least
-    ∙ of_if F c.args.s.now c.in-If.test c.in-If.yes c.in-If.no c.in-If.is
+judge_statement-returns-else-first-clause-least t c = if_least t (goal.at.judge_statement-returns-else-first-clause-least t c).After-judge_optional_statement-second
 
 pub judge_statement-returns-then-is_nonzero-clause-least : goal.judge_statement-returns-then-is_nonzero-clause-least
-judge_statement-returns-then-is_nonzero-clause-least t c =
-    let text = judge_text c.args.pauses.now in
-    let s = c.args.s.now in
-    let F = λ (x : Statement). least_from c.args.least.now (loops_faults text (loops_in x)) in
-    let w = plain.statement_at (While c.in-While.test c.in-While.bound c.in-While.body) s.place in
-    let is : plain.statement s ≡ w = sym (of_kind (λ x. x) s (While c.in-While.test c.in-While.bound c.in-While.body) c.in-While.is) in
-    two_loops text c.args.least.now c.judge_statement-inside.new.least c.keep_fault.new.least (loops_in (plain.statement c.in-While.body.value)) (w ∷ [])
-    (c.judge_statement-inside.ensures.least ∙ ap (λ (x : Stmt). F (plain.statement x)) c.deref-in-While.ensures)
-    (last_loop text c.judge_statement-inside.new.least c.keep_fault.new.least w c.is_endless.result s.place
-    (endless_is text c.in-While.bound c.is_endless.result c.turns-turns.result c.judge_statement-inside.result (plain.statement s) w (plain.statement c.in-While.body.value) c.is_endless.ensures c.turns-turns.ensures
-    (c.judge_statement-inside.ensures.certain ∙ ap (λ (x : Stmt). certain text (plain.statement x)) c.deref-in-While.ensures) is refl) refl c.keep_fault.ensures)
-    ∙ of_kind F s (While c.in-While.test c.in-While.bound c.in-While.body) c.in-While.is
+judge_statement-returns-then-is_nonzero-clause-least t c = while_least t (goal.at.judge_statement-returns-then-is_nonzero-clause-least t c).After-keep_endless
 
 pub judge_statement-returns-else-is_nonzero-clause-least : goal.judge_statement-returns-else-is_nonzero-clause-least
-judge_statement-returns-else-is_nonzero-clause-least t c =
-    let text = judge_text c.args.pauses.now in
-    let s = c.args.s.now in
-    let F = λ (x : Statement). least_from c.args.least.now (loops_faults text (loops_in x)) in
-    let w = plain.statement_at (While c.in-While.test c.in-While.bound c.in-While.body) s.place in
-    let is : plain.statement s ≡ w = sym (of_kind (λ x. x) s (While c.in-While.test c.in-While.bound c.in-While.body) c.in-While.is) in
-    two_loops text c.args.least.now c.judge_statement-inside.new.least c.keep_fault.new.least (loops_in (plain.statement c.in-While.body.value)) (w ∷ [])
-    (c.judge_statement-inside.ensures.least ∙ ap (λ (x : Stmt). F (plain.statement x)) c.deref-in-While.ensures)
-    (last_loop text c.judge_statement-inside.new.least c.keep_fault.new.least w c.is_endless.result s.place
-    (endless_is text c.in-While.bound c.is_endless.result c.turns-turns.result c.judge_statement-inside.result (plain.statement s) w (plain.statement c.in-While.body.value) c.is_endless.ensures c.turns-turns.ensures
-    (c.judge_statement-inside.ensures.certain ∙ ap (λ (x : Stmt). certain text (plain.statement x)) c.deref-in-While.ensures) is refl) refl c.keep_fault.ensures)
-    ∙ of_kind F s (While c.in-While.test c.in-While.bound c.in-While.body) c.in-While.is
+judge_statement-returns-else-is_nonzero-clause-least t c = while_least t (goal.at.judge_statement-returns-else-is_nonzero-clause-least t c).After-keep_endless
 
 pub judge_statement-returns-then-runs-clause-least : goal.judge_statement-returns-then-runs-clause-least
-judge_statement-returns-then-runs-clause-least t c =
-    let text = judge_text c.args.pauses.now in
-    let s = c.args.s.now in
-    let F = λ (x : Statement). least_from c.args.least.now (loops_faults text (loops_in x)) in
-    let first = loops_in_perhaps (perhaps_of c.in-For.start) in
-    let step = loops_in_perhaps (perhaps_of c.in-For.step) in
-    let inside = loops_in (plain.statement c.in-For.body.value) in
-    let w = For s.place (perhaps_of c.in-For.start) (plain.optional_term c.in-For.test) (perhaps_of c.in-For.step) c.in-For.bound (plain.statement c.in-For.body.value) in
-    let is : plain.statement s ≡ w = sym (of_for (λ x. x) s c.in-For.start c.in-For.step c.in-For.test c.in-For.bound c.in-For.body c.in-For.is) in
-    let k0 = c.args.least.now in
-    let k1 = c.judge_optional_statement.new.least in
-    let k2 = c.judge_optional_statement-in-For.new.least in
-    let k3 = c.judge_statement-inside-in-For.new.least in
-    let body = c.judge_statement-inside-in-For.ensures.least ∙ ap (λ (x : Stmt). least_from k2 (loops_faults text (loops_in (plain.statement x)))) c.deref-in-For.ensures in
-    let last = last_loop text k3 c.keep_fault-in-For.new.least w c.is_endless-in-For.result s.place
-    (endless_is text c.in-For.bound c.is_endless-in-For.result c.turns-turns-in-For.result c.judge_statement-inside-in-For.result (plain.statement s) w (plain.statement c.in-For.body.value) c.is_endless-in-For.ensures c.turns-turns-in-For.ensures
-    (c.judge_statement-inside-in-For.ensures.certain ∙ ap (λ (x : Stmt). certain text (plain.statement x)) c.deref-in-For.ensures) is refl) refl c.keep_fault-in-For.ensures in
-    let e = c.keep_fault-in-For.new.least in
-    two_loops text k0 k1 e first (step ++ (inside ++ w ∷ [])) c.judge_optional_statement.ensures.least
-    (two_loops text k1 k2 e step (inside ++ w ∷ []) c.judge_optional_statement-in-For.ensures.least (two_loops text k2 k3 e inside (w ∷ []) body last))
-    ∙ of_for F s c.in-For.start c.in-For.step c.in-For.test c.in-For.bound c.in-For.body c.in-For.is
+judge_statement-returns-then-runs-clause-least t c = for_least t (goal.at.judge_statement-returns-then-runs-clause-least t c).After-keep_endless-turns
 
 pub judge_statement-returns-else-runs-clause-least : goal.judge_statement-returns-else-runs-clause-least
-judge_statement-returns-else-runs-clause-least t c =
-    let text = judge_text c.args.pauses.now in
-    let s = c.args.s.now in
-    let F = λ (x : Statement). least_from c.args.least.now (loops_faults text (loops_in x)) in
-    let first = loops_in_perhaps (perhaps_of c.in-For.start) in
-    let step = loops_in_perhaps (perhaps_of c.in-For.step) in
-    let inside = loops_in (plain.statement c.in-For.body.value) in
-    let w = For s.place (perhaps_of c.in-For.start) (plain.optional_term c.in-For.test) (perhaps_of c.in-For.step) c.in-For.bound (plain.statement c.in-For.body.value) in
-    let is : plain.statement s ≡ w = sym (of_for (λ x. x) s c.in-For.start c.in-For.step c.in-For.test c.in-For.bound c.in-For.body c.in-For.is) in
-    let k0 = c.args.least.now in
-    let k1 = c.judge_optional_statement.new.least in
-    let k2 = c.judge_optional_statement-in-For.new.least in
-    let k3 = c.judge_statement-inside-in-For.new.least in
-    let body = c.judge_statement-inside-in-For.ensures.least ∙ ap (λ (x : Stmt). least_from k2 (loops_faults text (loops_in (plain.statement x)))) c.deref-in-For.ensures in
-    let last = last_loop text k3 c.keep_fault-in-For.new.least w c.is_endless-in-For.result s.place
-    (endless_is text c.in-For.bound c.is_endless-in-For.result c.turns-turns-in-For.result c.judge_statement-inside-in-For.result (plain.statement s) w (plain.statement c.in-For.body.value) c.is_endless-in-For.ensures c.turns-turns-in-For.ensures
-    (c.judge_statement-inside-in-For.ensures.certain ∙ ap (λ (x : Stmt). certain text (plain.statement x)) c.deref-in-For.ensures) is refl) refl c.keep_fault-in-For.ensures in
-    let e = c.keep_fault-in-For.new.least in
-    two_loops text k0 k1 e first (step ++ (inside ++ w ∷ [])) c.judge_optional_statement.ensures.least
-    (two_loops text k1 k2 e step (inside ++ w ∷ []) c.judge_optional_statement-in-For.ensures.least (two_loops text k2 k3 e inside (w ∷ []) body last))
-    ∙ of_for F s c.in-For.start c.in-For.step c.in-For.test c.in-For.bound c.in-For.body c.in-For.is
+judge_statement-returns-else-runs-clause-least t c = for_least t (goal.at.judge_statement-returns-else-runs-clause-least t c).After-keep_endless-turns
 
 gate : (b x : Bool) → b ≡ false → x ≡ (not b && x)
 gate b x h = rw h refl
@@ -151,17 +126,16 @@ judge_statement-returns-then-not-immediate-clause-certain t c =
     ∙ gate c.in-Abort.immediate _ c.if-not-immediate.true
     ∙ of_abort (certain (judge_text c.args.pauses.now)) c.args.s.now c.in-Abort.weak c.in-Abort.immediate c.in-Abort.test c.in-Abort.body c.as_slice-in-Abort.result.now c.in-Abort.is c.as_slice-in-Abort.ensures
 
-pub judge_statement-returns-then-not-immediate-clause-least : goal.judge_statement-returns-then-not-immediate-clause-least
-judge_statement-returns-then-not-immediate-clause-least t c =
-    let F = λ (x : Statement). least_from c.args.least.now (loops_faults (judge_text c.args.pauses.now) (loops_in x)) in
+abort_least : (t : ℕ) (c : judge_statement-After-judge_statements-inside t) → c.judge_statements-inside.new.least ≡ least_of (judge_text c.args.pauses.now) c.args.least.now (plain.statement c.args.s.now)
+abort_least t c =
     c.judge_statements-inside.ensures.least
-    ∙ of_abort F c.args.s.now c.in-Abort.weak c.in-Abort.immediate c.in-Abort.test c.in-Abort.body c.as_slice-in-Abort.result.now c.in-Abort.is c.as_slice-in-Abort.ensures
+    ∙ of_abort (least_of (judge_text c.args.pauses.now) c.args.least.now) c.args.s.now c.in-Abort.weak c.in-Abort.immediate c.in-Abort.test c.in-Abort.body c.as_slice-in-Abort.result.now c.in-Abort.is c.as_slice-in-Abort.ensures
+
+pub judge_statement-returns-then-not-immediate-clause-least : goal.judge_statement-returns-then-not-immediate-clause-least
+judge_statement-returns-then-not-immediate-clause-least t c = abort_least t (goal.at.judge_statement-returns-then-not-immediate-clause-least t c).After-judge_statements-inside
 
 pub judge_statement-returns-else-not-immediate-clause-least : goal.judge_statement-returns-else-not-immediate-clause-least
-judge_statement-returns-else-not-immediate-clause-least t c =
-    let F = λ (x : Statement). least_from c.args.least.now (loops_faults (judge_text c.args.pauses.now) (loops_in x)) in
-    c.judge_statements-inside.ensures.least
-    ∙ of_abort F c.args.s.now c.in-Abort.weak c.in-Abort.immediate c.in-Abort.test c.in-Abort.body c.as_slice-in-Abort.result.now c.in-Abort.is c.as_slice-in-Abort.ensures
+judge_statement-returns-else-not-immediate-clause-least t c = abort_least t (goal.at.judge_statement-returns-else-not-immediate-clause-least t c).After-judge_statements-inside
 
 pub judge_optional_statement-returns-in-None-clause-least : goal.judge_optional_statement-returns-in-None-clause-least
 judge_optional_statement-returns-in-None-clause-least t c =

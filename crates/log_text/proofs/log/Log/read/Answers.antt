@@ -6,6 +6,7 @@ use Rattle.log_text.specs.Stages.{AtHead, Stops}
 use Rattle.log_text.specs.Sections.{Expects, IsOn, ReadsSection}
 use Rattle.log_text.proofs.ReadLemmas.{Done, done_none, done_more, all_read, more_bytes, expects_next, threads_few, low_thread}
 use Rattle.log_text.proofs.StopLemmas.{stops_bad}
+use Rattle.log_text.proofs.log.Log.read.Goals.{After-read_section}
 use Rattle.log_text.proofs.log.Log.read.Goals as goal
 
 pub loop-t-init : goal.loop-t-init
@@ -16,34 +17,35 @@ loop-t-init c = record {
   bound = omega arith;
 }
 
+-- a further section is expected
+expected : (c : After-read_section) → (c.loop-t.t < length c.args.shape.now.threads.items) × Expects (plain_shape c.args.shape.now) c.loop-t.t c.deref.result.now c.loop-t.spot c.in_ok-packet.packet (AtHead c.loop-t.t)
+expected c =
+    let shape = c.args.shape.now in
+    let t = c.loop-t.t in
+    let low : t < length shape.threads.items = omega arith in
+    let x = expects_next shape c.args.bytes.items t c.len.result c.loop-t.sections.items c.loop-t.spot c.index-thread.result.now c.in_ok-packet.packet c.loop-t.invariant.done (omega arith) (omega arith) low c.index-thread.ensures (omega arith) c.in_ok-packet.ensures in
+    (low, subst (λ (b : List ℕ). Expects (plain_shape shape) t b c.loop-t.spot c.in_ok-packet.packet (AtHead t)) (sym c.deref.ensures.value) x)
+
 pub loop-t-preserved : goal.loop-t-preserved
 loop-t-preserved c =
     let shape = c.args.shape.now in
     let t = c.loop-t.t in
-    let h = c.loop-t.invariant.done in
-    let low : t < length shape.threads.items = omega arith in
-    let x = expects_next shape c.args.bytes.items t c.len.result c.loop-t.sections.items c.loop-t.spot c.index-thread.result.now c.in_ok-packet.packet h (omega arith) (omega arith) low c.index-thread.ensures (omega arith) c.in_ok-packet.ensures in
+    let x = expected (goal.at.loop-t-preserved c).After-read_section in
     let same : c.deref.result.now ≡ c.args.bytes.items = c.deref.ensures.value in
-    let x' = subst (λ (b : List ℕ). Expects (plain_shape shape) t b c.loop-t.spot c.in_ok-packet.packet (AtHead t)) (sym same) x in
-    let r = subst (λ (b : List ℕ). ReadsSection (plain_shape shape) t b c.loop-t.spot c.in-Ok.section c.in-Ok.next) same (c.in-Ok.ensures.section (plain_shape shape) x' (low_thread shape t low)) in
+    let r = subst (λ (b : List ℕ). ReadsSection (plain_shape shape) t b c.loop-t.spot c.in-Ok.section c.in-Ok.next) same (c.in-Ok.ensures.section (plain_shape shape) x.1 (low_thread shape t x.0)) in
     record {
       on = subst (λ (b : List ℕ). IsOn b c.in-Ok.next) same c.in-Ok.ensures.on;
       done = subst (λ (l : List Section). Done (plain_shape shape) c.args.bytes.items (t + 1) l c.in-Ok.next) (sym c.in_ok-push-in-Ok.ensures.items)
-          (done_more (plain_shape shape) c.args.bytes.items t c.loop-t.sections.items c.loop-t.spot c.in-Ok.next c.in-Ok.section h r);
+          (done_more (plain_shape shape) c.args.bytes.items t c.loop-t.sections.items c.loop-t.spot c.in-Ok.next c.in-Ok.section c.loop-t.invariant.done r);
       bound = omega arith;
     }
 
 pub returns-in-Err-clause-bad : goal.returns-in-Err-clause-bad
 returns-in-Err-clause-bad c = λ line e.
     let shape = c.args.shape.now in
-    let t = c.loop-t.t in
-    let h = c.loop-t.invariant.done in
-    let low : t < length shape.threads.items = omega arith in
-    let x = expects_next shape c.args.bytes.items t c.len.result c.loop-t.sections.items c.loop-t.spot c.index-thread.result.now c.in_ok-packet.packet h (omega arith) (omega arith) low c.index-thread.ensures (omega arith) c.in_ok-packet.ensures in
-    let same : c.deref.result.now ≡ c.args.bytes.items = c.deref.ensures.value in
-    let x' = subst (λ (b : List ℕ). Expects (plain_shape shape) t b c.loop-t.spot c.in_ok-packet.packet (AtHead t)) (sym same) x in
+    let x = expected (goal.at.returns-in-Err-clause-bad c).After-read_section in
     stops_bad (plain_shape shape) c.args.bytes.items line (threads_few shape (omega arith)) (omega arith)
-    (subst (λ (b : List ℕ). Stops (plain_shape shape) b line) same (c.in-Err.ensures.bad (plain_shape shape) line x' (low_thread shape t low) (ap Err (cc))))
+    (subst (λ (b : List ℕ). Stops (plain_shape shape) b line) c.deref.ensures.value (c.in-Err.ensures.bad (plain_shape shape) line x.1 (low_thread shape c.loop-t.t x.0) (ap Err (cc))))
 
 pub returns-then-spot-size-clause-bad : goal.returns-then-spot-size-clause-bad
 returns-then-spot-size-clause-bad c = λ line e.

@@ -16,112 +16,64 @@ use Rattle.forec_check.proofs.walk.context.Context.+statement.Goals as goal
 
 pub branch-returns-in_ok-expressions-in-Call-clause-notes : goal.branch-returns-in_ok-expressions-in-Call-clause-notes
 branch-returns-in_ok-expressions-in-Call-clause-notes t c =
-    let j = judging_in c.args.self.now in
-    let text = text_in c.args.self.now in
-    let s = scope_of c.args.scope.now in
-    let k = notes_of c.args.notes.now in
-    branch_call j text s k (notes_of c.use_name.new.notes) (notes_of c.expressions.new.notes) c.args.one.now c.in-Call.name c.in-Call.args c.as_slice.result.now c.len.result
+    branch_call _ _ _ _ (notes_of c.use_name.new.notes) (notes_of c.expressions.new.notes) c.args.one.now c.in-Call.name c.in-Call.args c.as_slice.result.now c.len.result
     c.in-Call.is c.len.ensures c.as_slice.ensures c.in_ok-use_name-in-Call.ensures c.in_ok-expressions-in-Call.ensures
 
 pub branch-returns-in_ok-close_branch-in-Group-clause-notes : goal.branch-returns-in_ok-close_branch-in-Group-clause-notes
 branch-returns-in_ok-close_branch-in-Group-clause-notes t c =
-    let j = judging_in c.args.self.now in
-    let text = text_in c.args.self.now in
-    let s = scope_of c.args.scope.now in
-    let k = notes_of c.args.notes.now in
-    branch_block j text s k (notes_of c.open_branch.new.notes) (notes_of c.branch_block.new.notes) (notes_of c.close_branch.new.notes) c.args.one.now c.in-Group.place c.in-Group.body
+    branch_block _ _ _ _ (notes_of c.open_branch.new.notes) (notes_of c.branch_block.new.notes) (notes_of c.close_branch.new.notes) c.args.one.now c.in-Group.place c.in-Group.body
     c.as_slice-in-Group.result.now c.in-Group.is c.as_slice-in-Group.ensures c.in_ok-open_branch-in-Group.ensures c.in_ok-branch_block-in-Group.ensures.notes c.in_ok-close_branch-in-Group.ensures
 
 pub branches-loop-one-preserved : goal.branches-loop-one-preserved
-branches-loop-one-preserved t c =
-    let j = judging_in c.args.self.now in
-    let text = text_in c.args.self.now in
-    let s = scope_of c.args.scope.now in
-    let k = notes_of c.args.notes.now in (
-      branches_step j text s c.args.all.now c.loop-one.one-index c.one-item.result (scope_of c.loop-one.scope) (notes_of c.loop-one.notes) _ _ c.loop-one-test.true (sym c.one-item.is)
-          (same_scope c.args.scope.now c.loop-one.scope c.loop-one.invariant.1) c.in_ok-branch.ensures.notes c.loop-one.invariant.0,
-      same_on c.args.scope.now c.loop-one.scope _ c.loop-one.invariant.1 c.in_ok-branch.ensures.same,
-    )
+branches-loop-one-preserved t c = (
+  branches_step _ _ _ c.args.all.now c.loop-one.one-index c.one-item.result (scope_of c.loop-one.scope) (notes_of c.loop-one.notes) _ _ c.loop-one-test.true (sym c.one-item.is)
+      (same_scope c.args.scope.now c.loop-one.scope c.loop-one.invariant.1) c.in_ok-branch.ensures.notes c.loop-one.invariant.0,
+  same_on c.args.scope.now c.loop-one.scope _ c.loop-one.invariant.1 c.in_ok-branch.ensures.same,
+)
 
 pub branches-returns-clause-notes : goal.branches-returns-clause-notes
 branches-returns-clause-notes t c =
-    let j = judging_in c.args.self.now in
-    let text = text_in c.args.self.now in
-    let s = scope_of c.args.scope.now in
-    let k = notes_of c.args.notes.now in
-    branches_end j text s c.args.all.now c.loop-one.one-index (notes_of c.loop-one.notes) _ c.loop-one-test.false c.loop-one.invariant.0
+    branches_end _ _ _ c.args.all.now c.loop-one.one-index (notes_of c.loop-one.notes) _ c.loop-one-test.false c.loop-one.invariant.0
 
 pub statements-loop-s-preserved : goal.statements-loop-s-preserved
 statements-loop-s-preserved t c =
-    let j = judging_in c.args.self.now in
-    let text = text_in c.args.self.now in
-    let s = scope_of c.args.scope.now in
-    let k = notes_of c.args.notes.now in
     let r = scope_of c.loop-s.scope in (
-      statements_step j text r c.args.body.now c.loop-s.s-index c.s-item.result _ (notes_of c.loop-s.notes) (notes_of c.statement.new.notes) _ c.loop-s-test.true (sym c.s-item.is)
+      statements_step _ _ r c.args.body.now c.loop-s.s-index c.s-item.result _ (notes_of c.loop-s.notes) (notes_of c.statement.new.notes) _ c.loop-s-test.true (sym c.s-item.is)
           c.in_ok-statement.ensures.scope c.in_ok-statement.ensures.notes c.loop-s.invariant.0,
       framed_on c.args.scope.now c.loop-s.scope c.statement.new.scope c.loop-s.invariant.1 c.in_ok-statement.ensures.frame,
     )
 
 pub statements-returns-clause-notes : goal.statements-returns-clause-notes
 statements-returns-clause-notes t c =
-    let j = judging_in c.args.self.now in
-    let text = text_in c.args.self.now in
-    let s = scope_of c.args.scope.now in
-    let k = notes_of c.args.notes.now in
-    statements_end j text (scope_of c.loop-s.scope) c.args.body.now c.loop-s.s-index (notes_of c.loop-s.notes) _ c.loop-s-test.false c.loop-s.invariant.0
+    statements_end _ _ (scope_of c.loop-s.scope) c.args.body.now c.loop-s.s-index (notes_of c.loop-s.notes) _ c.loop-s-test.false c.loop-s.invariant.0
 
 pub optional_scoped_statement-returns-in-None-clause-notes : goal.optional_scoped_statement-returns-in-None-clause-notes
 optional_scoped_statement-returns-in-None-clause-notes t c =
-    let j = judging_in c.args.self.now in
-    let text = text_in c.args.self.now in
-    let s = scope_of c.args.scope.now in
-    let k = notes_of c.args.notes.now in
-    no_statement j text (inner_scope s) k c.args.s.now c.in-None.is
+    no_statement _ _ (inner_scope (scope_of c.args.scope.now)) _ c.args.s.now c.in-None.is
 
 pub optional_statement-returns-in-None-clause-notes : goal.optional_statement-returns-in-None-clause-notes
 optional_statement-returns-in-None-clause-notes t c =
-    let j = judging_in c.args.self.now in
-    let text = text_in c.args.self.now in
-    let s = scope_of c.args.scope.now in
-    let k = notes_of c.args.notes.now in
-    no_statement j text s k c.args.s.now c.in-None.is
+    no_statement _ _ _ _ c.args.s.now c.in-None.is
 
 pub statement-returns-in-Nothing-clause-notes : goal.statement-returns-in-Nothing-clause-notes
 statement-returns-in-Nothing-clause-notes t c =
-    let j = judging_in c.args.self.now in
-    let text = text_in c.args.self.now in
-    let s = scope_of c.args.scope.now in
-    let k = notes_of c.args.notes.now in
-    of_statement j text s k _ c.args.s.now _ c.in-Nothing.is
-    (sym (walked-none j k))
+    of_statement _ _ _ _ _ c.args.s.now _ c.in-Nothing.is
+    (sym (walked-none _ _))
 
 pub statement-returns-in_ok-block-in-Group-clause-notes : goal.statement-returns-in_ok-block-in-Group-clause-notes
 statement-returns-in_ok-block-in-Group-clause-notes t c =
-    let j = judging_in c.args.self.now in
-    let text = text_in c.args.self.now in
-    let s = scope_of c.args.scope.now in
-    let k = notes_of c.args.notes.now in
-    of_statement j text s k _ c.args.s.now _ c.in-Group.is
-    (group_is j text s k (notes_of c.block.new.notes) c.args.s.now.place c.in-Group.body c.as_slice.result.now c.as_slice.ensures c.in_ok-block-in-Group.ensures.notes)
+    of_statement _ _ _ _ _ c.args.s.now _ c.in-Group.is
+    (group_is _ _ (scope_of c.args.scope.now) (notes_of c.args.notes.now) (notes_of c.block.new.notes) c.args.s.now.place c.in-Group.body c.as_slice.result.now c.as_slice.ensures c.in_ok-block-in-Group.ensures.notes)
 
 pub statement-returns-in_ok-expression-in-Assign-clause-notes : goal.statement-returns-in_ok-expression-in-Assign-clause-notes
 statement-returns-in_ok-expression-in-Assign-clause-notes t c =
-    let j = judging_in c.args.self.now in
-    let text = text_in c.args.self.now in
-    let s = scope_of c.args.scope.now in
-    let k = notes_of c.args.notes.now in
-    of_statement j text s k _ c.args.s.now _ c.in-Assign.is
-    (two j _ _ k (notes_of c.target.new.notes) (notes_of c.expression.new.notes) c.in_ok-target-in-Assign.ensures c.in_ok-expression-in-Assign.ensures)
+    of_statement _ _ _ _ _ c.args.s.now _ c.in-Assign.is
+    (two _ _ _ _ (notes_of c.target.new.notes) (notes_of c.expression.new.notes) c.in_ok-target-in-Assign.ensures c.in_ok-expression-in-Assign.ensures)
 
 pub statement-returns-in_ok-expressions-in-Call-clause-notes : goal.statement-returns-in_ok-expressions-in-Call-clause-notes
 statement-returns-in_ok-expressions-in-Call-clause-notes t c =
-    let j = judging_in c.args.self.now in
-    let text = text_in c.args.self.now in
-    let s = scope_of c.args.scope.now in
-    let k = notes_of c.args.notes.now in
-    of_statement j text s k _ c.args.s.now _ c.in-Call.is
-    (run_is j text s k (notes_of c.use_name.new.notes) (notes_of c.expressions.new.notes) c.in-Call.name c.in-Call.args c.as_slice-in-Call.result.now c.len.result c.len.ensures c.as_slice-in-Call.ensures
+    of_statement _ _ _ _ _ c.args.s.now _ c.in-Call.is
+    (run_is _ _ _ _ (notes_of c.use_name.new.notes) (notes_of c.expressions.new.notes) c.in-Call.name c.in-Call.args c.as_slice-in-Call.result.now c.len.result c.len.ensures c.as_slice-in-Call.ensures
     c.in_ok-use_name-in-Call.ensures c.in_ok-expressions-in-Call.ensures)
 
 pub statement-returns-in_ok-optional_scoped_statement-in-If-clause-notes : goal.statement-returns-in_ok-optional_scoped_statement-in-If-clause-notes
@@ -138,14 +90,10 @@ statement-returns-in_ok-optional_scoped_statement-in-If-clause-notes t c =
 
 pub statement-returns-in_ok-scoped_statement-in-While-clause-notes : goal.statement-returns-in_ok-scoped_statement-in-While-clause-notes
 statement-returns-in_ok-scoped_statement-in-While-clause-notes t c =
-    let j = judging_in c.args.self.now in
-    let text = text_in c.args.self.now in
-    let s = scope_of c.args.scope.now in
-    let k = notes_of c.args.notes.now in
-    of_statement j text s k _ c.args.s.now _ c.in-While.is
-    (while_is j text s k (notes_of c.bound.new.notes) (notes_of c.expression-in-While.new.notes) (notes_of c.scoped_statement-in-While.new.notes) _ c.in-While.bound _ _
+    of_statement _ _ _ _ _ c.args.s.now _ c.in-While.is
+    (while_is _ (text_in c.args.self.now) (scope_of c.args.scope.now) _ (notes_of c.bound.new.notes) (notes_of c.expression-in-While.new.notes) (notes_of c.scoped_statement-in-While.new.notes) _ c.in-While.bound _ _
     c.bound.ensures c.in_ok-expression-in-While.ensures
-    (body_in j text (inner_scope s) (inner_scope s) _ _ _ _ refl c.deref-in-While.ensures c.in_ok-scoped_statement-in-While.ensures.notes))
+    (body_in _ _ (inner_scope (scope_of c.args.scope.now)) (inner_scope (scope_of c.args.scope.now)) _ _ _ _ refl c.deref-in-While.ensures c.in_ok-scoped_statement-in-While.ensures.notes))
 
 pub statement-returns-in_ok-scoped_statement-in-For-clause-notes : goal.statement-returns-in_ok-scoped_statement-in-For-clause-notes
 statement-returns-in_ok-scoped_statement-in-For-clause-notes t c =
@@ -177,22 +125,14 @@ statement-returns-in_ok-branches-in-Par-clause-notes t c =
 
 pub statement-returns-in_ok-block-in-Abort-clause-notes : goal.statement-returns-in_ok-block-in-Abort-clause-notes
 statement-returns-in_ok-block-in-Abort-clause-notes t c =
-    let j = judging_in c.args.self.now in
-    let text = text_in c.args.self.now in
-    let s = scope_of c.args.scope.now in
-    let k = notes_of c.args.notes.now in
-    of_statement j text s k _ c.args.s.now _ c.in-Abort.is
-    (abort_is j text s k (notes_of c.judge_synchronous-in-Abort.new.notes) (notes_of c.expression-in-Abort.new.notes) (notes_of c.block-in-Abort.new.notes) c.in-Abort.weak c.in-Abort.immediate c.in-Abort.test c.in-Abort.body
+    of_statement _ _ _ _ _ c.args.s.now _ c.in-Abort.is
+    (abort_is _ _ _ _ (notes_of c.judge_synchronous-in-Abort.new.notes) (notes_of c.expression-in-Abort.new.notes) (notes_of c.block-in-Abort.new.notes) c.in-Abort.weak c.in-Abort.immediate c.in-Abort.test c.in-Abort.body
     c.as_slice-in-Abort.result.now c.args.s.now.place c.as_slice-in-Abort.ensures c.judge_synchronous-in-Abort.ensures c.in_ok-expression-in-Abort.ensures c.in_ok-block-in-Abort.ensures.notes)
 
 pub statement-returns-in_ok-expression-in-Return-clause-notes : goal.statement-returns-in_ok-expression-in-Return-clause-notes
 statement-returns-in_ok-expression-in-Return-clause-notes t c =
-    let j = judging_in c.args.self.now in
-    let text = text_in c.args.self.now in
-    let s = scope_of c.args.scope.now in
-    let k = notes_of c.args.notes.now in
-    of_statement j text s k _ c.args.s.now _ c.in-Return.is
-    (then j _ _ k (notes_of c.judge_return.new.notes) (notes_of c.expression-in-Return.new.notes) c.judge_return.ensures c.in_ok-expression-in-Return.ensures)
+    of_statement _ _ _ _ _ c.args.s.now _ c.in-Return.is
+    (then _ _ _ _ (notes_of c.judge_return.new.notes) (notes_of c.expression-in-Return.new.notes) c.judge_return.ensures c.in_ok-expression-in-Return.ensures)
 
 -- ---- the scope after a statement
 
@@ -212,12 +152,8 @@ statement-returns-in_ok-block-in-Group-clause-frame t c = same_framed c.args.sco
 
 pub statement-returns-in_ok-locals-in-Declare-clause-notes : goal.statement-returns-in_ok-locals-in-Declare-clause-notes
 statement-returns-in_ok-locals-in-Declare-clause-notes t c =
-    let j = judging_in c.args.self.now in
-    let text = text_in c.args.self.now in
-    let s = scope_of c.args.scope.now in
-    let k = notes_of c.args.notes.now in
-    of_statement j text s k _ c.args.s.now _ c.in-Declare.is
-    (declare_is j text s k (notes_of c.locals.new.notes) c.in-Declare.list c.as_slice-in-Declare.result.now c.as_slice-in-Declare.ensures c.in_ok-locals-in-Declare.ensures.notes)
+    of_statement _ _ _ _ _ c.args.s.now _ c.in-Declare.is
+    (declare_is _ _ _ _ (notes_of c.locals.new.notes) c.in-Declare.list c.as_slice-in-Declare.result.now c.as_slice-in-Declare.ensures c.in_ok-locals-in-Declare.ensures.notes)
 
 pub statement-returns-in_ok-locals-in-Declare-clause-scope : goal.statement-returns-in_ok-locals-in-Declare-clause-scope
 statement-returns-in_ok-locals-in-Declare-clause-scope t c =
@@ -259,8 +195,7 @@ statement-returns-in_ok-scoped_statement-in-While-clause-frame t c = same_framed
 
 pub statement-returns-in-Pause-clause-notes : goal.statement-returns-in-Pause-clause-notes
 statement-returns-in-Pause-clause-notes t c =
-    let j = judging_in c.args.self.now in
-    of_statement j (text_in c.args.self.now) (scope_of c.args.scope.now) (notes_of c.args.notes.now) _ c.args.s.now _ c.in-Pause.is c.judge_synchronous.ensures
+    of_statement _ (text_in c.args.self.now) (scope_of c.args.scope.now) (notes_of c.args.notes.now) _ c.args.s.now _ c.in-Pause.is c.judge_synchronous.ensures
 
 pub statement-returns-in-Pause-clause-scope : goal.statement-returns-in-Pause-clause-scope
 statement-returns-in-Pause-clause-scope t c = of_kind (after (scope_of c.args.scope.now)) c.args.s.now _ c.in-Pause.is

@@ -27,7 +27,7 @@ module _ (k : PlainKernel) (P : Thread → Type 0) (step : (g : Going) → P g.t
       either_has (stop g) (nat_lt g.units g'.units) g (paid g') (free_steps k stop paid size g') h (keeps g' (step g h))
       (free_has stop paid keeps size g' (step g h))
 
-  finished_has : (stop : Going → Bool) (left : ℕ) (g : Going) → P g.thread → P (finished k stop left g).thread
+  pub finished_has : (stop : Going → Bool) (left : ℕ) (g : Going) → P g.thread → P (finished k stop left g).thread
   finished_has stop zero g h = h
   finished_has stop (suc left) g h =
       free_has stop (finished k stop left) (λ g' h'. finished_has stop left g' h') (suc (text_size g.thread.text)) g h
