@@ -9,4 +9,4 @@ mod room;
 pub use files::Files;
 pub use input::Input;
 pub use output::Output;
-pub use room::{LEAST, ROOMS, Room, has_room};
+pub use room::{LEAST, ROOMS, has_room};

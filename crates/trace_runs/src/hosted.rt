@@ -3,8 +3,6 @@
 ghost use Rattle.std.specs.Prelude.{◌≡◌, true};
 ghost use Rattle.core_host.specs.Hosted.{is_here};
 
-use crate::setting::Company;
-use crate::ticker::Ticker;
 use copy_slots::Port;
 use core_host::Host;
 use core_seats::{ForecWork, Serve};
@@ -12,6 +10,7 @@ use forec_base::{Gate, OutOfMemory};
 use forec_kernel::Outcome;
 use one_core::OneCore;
 use std::sync::Wait;
+use trace_ticks::{Company, Ticker};
 
 /// The host of thread 0, which ticks beside the hosts of other cores.
 #[derive(Drop)]

@@ -1,7 +1,7 @@
 use Rattle.std.proofs.Common.{sym, subst, refl}
 use Rattle.thread_code.specs.Plain.{PlainCode, plain_code}
 use Rattle.one_core.specs.Single.{single_code, OneCoreHasRun}
-use Rattle.trace_runs.proofs.Following.{code_starts}
+use Rattle.trace_ticks.proofs.Following.{code_starts}
 use Rattle.trace_runs.proofs.hosting.lead_alone.Goals as goal
 
 pub lead-requires : goal.lead-requires

@@ -1,5 +1,5 @@
 use Rattle.one_core.specs.Single.{single_ticking}
-use Rattle.trace_runs.proofs.Following.{code_ticks}
+use Rattle.trace_ticks.proofs.Following.{code_ticks}
 use Rattle.trace_runs.proofs.hosted.OneCoreTicker.tick.Goals as goal
 
 pub returns-clause-tick : goal.returns-clause-tick
