@@ -1,4 +1,2 @@
-pub mod Marks
-pub mod Moving
 pub mod Waking
 pub mod States

@@ -8,8 +8,8 @@ ghost use Rattle.forec_kernel.specs.Texts.{child_of};
 ghost use Rattle.running_threads.specs.Views.{threads, focused, plugged, plain_running_thread, plain_status};
 ghost use Rattle.kernel_meaning.specs.Waking.{IsReached, fate_in_thread, waking_kind, WokenTo, awake, woken_going, AreWoken};
 
-use crate::statements::number_of;
 use forec_kernel::{KernelParts, VarCopy};
+use running_steps::number_of;
 use running_texts::{Halt, ThreadValues, copies_below, tested, thread_uses};
 use running_threads::{
     Children, Focus, Frame, Status, Thread, Turn, duplicate_focus, duplicate_thread, ran,

@@ -4,7 +4,7 @@ use Rattle.running_texts.proofs.Tests.{zero_of, nonzero_of}
 use Rattle.running_threads.specs.declared.threads.Frame.TheVariants as frame
 use Rattle.kernel_meaning.specs.declared.wakes.Reach.TheVariants as reach
 use Rattle.kernel_meaning.specs.Waking.{IsReached, fate_in_thread}
-use Rattle.kernel_meaning.specs.Moving.{value_in}
+use Rattle.running_steps.specs.Moving.{value_in}
 use Rattle.kernel_meaning.proofs.Fates.{head_is, tail_is, reached_in, reached_out, watches_on, lasts_on, goes_out, test_fails}
 use Rattle.kernel_meaning.proofs.wakes.+wake_frames.Goals as goal
 
