@@ -4,6 +4,5 @@
 
 mod orders;
 mod ticks;
-mod wakes;
 
 pub use ticks::{State, rewrite_tick};

@@ -5,3 +5,4 @@ pub mod Threads
 pub mod Loops
 pub mod Transposed
 pub mod Marks
+pub mod Fates

@@ -20,7 +20,7 @@ use running_threads::{NextText, Turn};
 use std::alloc::Global;
 
 /// The value of an expression in a thread.
-pub fn number_of(
+pub(crate) fn number_of(
     alloc: Global,
     kernel: &KernelParts,
     values: &ThreadValues<'_>,

@@ -23,8 +23,8 @@ use Rattle.running_threads.specs.declared.threads.Focus.{Focus}
 use Rattle.running_threads.specs.declared.threads.Thread.{Thread}
 use Rattle.running_threads.specs.declared.threads.Children.{Children}
 use Rattle.running_threads.specs.Views.{plugged, focused, threads, plain_running_thread}
-use Rattle.kernel_meaning.specs.declared.wakes.Reach.{Reach}
-use Rattle.kernel_meaning.specs.declared.wakes.Reach.TheVariants as reach
+use Rattle.running_steps.specs.declared.wakes.Reach.{Reach}
+use Rattle.running_steps.specs.declared.wakes.Reach.TheVariants as reach
 
 -- what becomes of the frames of a text that wakes: these, to so far; or a test traps
 pub data Fate : Type 0 where

@@ -24,9 +24,9 @@ use Rattle.running_threads.specs.declared.threads.Focus.{Focus}
 use Rattle.running_threads.specs.declared.threads.Focus as focus
 use Rattle.running_threads.specs.declared.threads.Thread as rust
 use Rattle.running_threads.specs.Views.{framed, plugged, focused, plain_running_thread}
-use Rattle.kernel_meaning.specs.declared.wakes.Reach.{Reach}
-use Rattle.kernel_meaning.specs.declared.wakes.Reach.TheVariants as reach
-use Rattle.kernel_meaning.specs.Waking.{Fate, Reaches, Sticks, fate_units, more_fate, fate_in, fate_with, fate_on, fate, IsReached, waking_kind, woken_going, WokenTo}
+use Rattle.running_steps.specs.declared.wakes.Reach.{Reach}
+use Rattle.running_steps.specs.declared.wakes.Reach.TheVariants as reach
+use Rattle.running_steps.specs.Waking.{Fate, Reaches, Sticks, fate_units, more_fate, fate_in, fate_with, fate_on, fate, IsReached, waking_kind, woken_going, WokenTo}
 
 -- ---- what the whole text comes to
 

@@ -2,11 +2,11 @@ use Rattle.std.proofs.Common.{◌≡◌, ◌∙◌, ◌∷◌, [], ◌++◌, dro
 use Rattle.forec_kernel.specs.Plain.{expr}
 use Rattle.running_texts.proofs.Tests.{zero_of, nonzero_of}
 use Rattle.running_threads.specs.declared.threads.Frame.TheVariants as frame
-use Rattle.kernel_meaning.specs.declared.wakes.Reach.TheVariants as reach
-use Rattle.kernel_meaning.specs.Waking.{IsReached, fate_in_thread}
+use Rattle.running_steps.specs.declared.wakes.Reach.TheVariants as reach
+use Rattle.running_steps.specs.Waking.{IsReached, fate_in_thread}
 use Rattle.running_steps.specs.Moving.{value_in}
-use Rattle.kernel_meaning.proofs.Fates.{head_is, tail_is, reached_in, reached_out, watches_on, lasts_on, goes_out, test_fails}
-use Rattle.kernel_meaning.proofs.wakes.+wake_frames.Goals as goal
+use Rattle.running_steps.proofs.Fates.{head_is, tail_is, reached_in, reached_out, watches_on, lasts_on, goes_out, test_fails}
+use Rattle.running_steps.proofs.wakes.+wake_frames.Goals as goal
 
 pub returns-then-n-eq0 : goal.returns-then-n-eq0
 returns-then-n-eq0 d c =

@@ -2,8 +2,8 @@ use Rattle.std.proofs.Common.{◌≡◌, refl}
 use Rattle.forec_kernel.specs.Shapes.{plain_kernel}
 use Rattle.running_texts.specs.declared.meter.Halt.TheVariants.{Over}
 use Rattle.running_threads.specs.Views.{focused, plain_running_thread}
-use Rattle.kernel_meaning.proofs.Fates.{wakes_focus, wakes_focus_err, wakes_last, wakes_out, wakes_not, wakes_err}
-use Rattle.kernel_meaning.proofs.wakes.+waking.Goals as goal
+use Rattle.running_steps.proofs.Fates.{wakes_focus, wakes_focus_err, wakes_last, wakes_out, wakes_not, wakes_err}
+use Rattle.running_steps.proofs.wakes.+waking.Goals as goal
 
 pub wake_thread-returns-in-Ok : goal.wake_thread-returns-in-Ok
 wake_thread-returns-in-Ok t c =

@@ -6,10 +6,10 @@ ghost use Rattle.forec_kernel.specs.Steps.{woken, woken_children};
 ghost use Rattle.running_texts.specs.Metered.{IsMetered};
 ghost use Rattle.forec_kernel.specs.Texts.{child_of};
 ghost use Rattle.running_threads.specs.Views.{threads, focused, plugged, plain_running_thread, plain_status};
-ghost use Rattle.kernel_meaning.specs.Waking.{IsReached, fate_in_thread, waking_kind, WokenTo, awake, woken_going, AreWoken};
+ghost use Rattle.running_steps.specs.Waking.{IsReached, fate_in_thread, waking_kind, WokenTo, awake, woken_going, AreWoken};
 
+use crate::statements::number_of;
 use forec_kernel::{KernelParts, VarCopy};
-use running_steps::number_of;
 use running_texts::{Halt, ThreadValues, copies_below, tested, thread_uses};
 use running_threads::{
     Children, Focus, Frame, Status, Thread, Turn, duplicate_focus, duplicate_thread, ran,
@@ -136,7 +136,7 @@ fn trapped_at<'k>(
 
 /// A thread that wakes with these copies.
 #[cycle(waking)]
-pub(crate) fn wake_thread<'k>(
+pub fn wake_thread<'k>(
     alloc: Global,
     kernel: &'k KernelParts,
     uses: &[u32],
