@@ -1,49 +1,72 @@
 -- The places in the kernel of a program.
-use Rattle.std.proofs.Common.{ℕ, Bool, true, false, cond, List, [], ◌∷◌, map, length}
-use Rattle.std.specs.List.{AllByRecursion}
-use Rattle.forec_tree.specs.Terms.{PlainFunction, IsGlobal, IsFunction, Text}
-use Rattle.text_kernel.specs.Bindings.{params_at}
-use Rattle.text_kernel.specs.Lowering.{Made, sequence}
-use Rattle.text_kernel.specs.Kernels.{lowered_function_body, int_functions, main_id, root, kernel_of}
-use Rattle.log_ranges.specs.Places.{StmtPlaces, KernelPlaces}
+use Rattle.std.proofs.Common.{List, [], ◌∷◌}
+use Rattle.forec_tree.specs.declared.token.Token.{Token}
+use Rattle.forec_kernel.specs.Terms.{Expr, Num, Local, LocalAt, Var, SharedAt, TableAt, Un, Bin, And, Or, Choose, Call, Exprs, no_exprs, more_exprs, Branch, Stmt, Nop, Set, SetAt, PutAt, Clear, Seq, If, While, Pause, Par, Enter, Return, Stmts, no_stmts, more_stmts}
+use Rattle.text_kernel.specs.Kernels.{kernel_of}
+use Rattle.log_ranges.specs.Places.{IsPlace, ExprPlaces, ExprsPlaces, BranchesPlaces, StmtPlaces, StmtsPlaces}
+use Rattle.text_ranges.proofs.Tokens.{TokenHolds, lexed_holds}
+use Rattle.text_ranges.proofs.Trees.{Property}
+use Rattle.text_ranges.proofs.Kernels.{ExprHolds, ExprsHolds, BranchesHolds, StmtHolds, StmtsHolds}
+use Rattle.text_ranges.proofs.Spelled.{spelled_holds}
+use Rattle.text_ranges.proofs.Bodies.{all_into, bodies_hold}
 use Rattle.text_places.specs.Laws.{SpelledProgramsHavePlaces}
-use Rattle.text_places.proofs.Tokens.{lexed_places}
-use Rattle.text_places.proofs.Trees.{StatementsPlaces, TextPlaces}
-use Rattle.text_places.proofs.Spelled.{spelled_places}
-use Rattle.text_places.proofs.Lowered.{sequence_places, MadePlaces, body_places, inlined_places}
+use Rattle.text_places.proofs.Tokens.{cuts_places}
 
-module _ (text : Text) (names : List (List ℕ)) where
-  ints_places : (xs : Text) → TextPlaces xs → AllByRecursion (λ (f : PlainFunction). StatementsPlaces f.body) (int_functions text names xs)
-  ints_places [] h = tt
-  ints_places (IsGlobal g ∷ rest) h = ints_places rest h.1
-  ints_places (IsFunction f ∷ rest) h = pick f.gives (ints_places rest h.1)
-    where
-      pick : (b : Bool) → AllByRecursion (λ (x : PlainFunction). StatementsPlaces x.body) (int_functions text names rest) →
-          AllByRecursion (λ (x : PlainFunction). StatementsPlaces x.body) (cond b (f ∷ int_functions text names rest) (int_functions text names rest))
-      pick true k = (h.0, k)
-      pick false k = k
+-- each place has a line and a column from 1, below 2 ^ 32
+abbrev places : Property
+places = record { OfNumber = λ n. Unit {0}; OfPlace = IsPlace; small = λ k few. tt; minus = λ n h. tt }
 
-  made_places : (a : List Made) → MadePlaces a → AllByRecursion StmtPlaces (map (λ m. m.body) a)
-  made_places [] h = tt
-  made_places (m ∷ a) h = (h.0, made_places a h.1)
+-- ---- terms of a kernel
 
-  module _ (words : TextPlaces text) where
-    functions_places : (fs : List PlainFunction) → AllByRecursion (λ (f : PlainFunction). StatementsPlaces f.body) fs →
-        AllByRecursion StmtPlaces (map (λ f. sequence (lowered_function_body text names f).list) fs)
-    functions_places [] h = tt
-    functions_places (f ∷ fs) h =
-        let l = body_places text words 0 (params_at 0 f.params) (record { slot = length f.params; thread = 1; par = 0 }) f.body h.0 in
-        (sequence_places (lowered_function_body text names f).list l.list, functions_places fs h.1)
+mutual
+  expr_places : (e : Expr) → ExprHolds places e → ExprPlaces e
+  expr_places (Num n) h = tt
+  expr_places (Local slot) h = tt
+  expr_places (LocalAt slot n i place) h = (expr_places i h.0, h.1)
+  expr_places (Var v) h = tt
+  expr_places (SharedAt v n i place) h = (expr_places i h.0, h.1)
+  expr_places (TableAt t i place) h = (expr_places i h.0, h.1)
+  expr_places (Un op a) h = expr_places a h
+  expr_places (Bin op a b place) h = (expr_places a h.0, expr_places b h.1, h.2)
+  expr_places (And a b) h = (expr_places a h.0, expr_places b h.1)
+  expr_places (Or a b) h = (expr_places a h.0, expr_places b h.1)
+  expr_places (Choose t a b) h = (expr_places t h.0, expr_places a h.1, expr_places b h.2)
+  expr_places (Call f args) h = exprs_places args h
 
-    has_places : KernelPlaces (kernel_of text names)
-    unfolding kernel_of
-    has_places =
-        let r = inlined_places text words (main_id text names) 0 0 (record { slot = 0; thread = 1; par = 0 }) in
-        record {
-          threads = (r.stmt, made_places (root text names).made r.made);
-          functions = functions_places (int_functions text names text) (ints_places text words);
-        }
+  exprs_places : (es : Exprs) → ExprsHolds places es → ExprsPlaces es
+  exprs_places no_exprs h = tt
+  exprs_places (more_exprs e es) h = (expr_places e h.0, exprs_places es h.1)
+
+branches_places : (bs : List Branch) → BranchesHolds places bs → BranchesPlaces bs
+branches_places [] h = tt
+branches_places (b ∷ bs) h = (exprs_places b.args h.0, branches_places bs h.1)
+
+mutual
+  stmt_places : (s : Stmt) → StmtHolds places s → StmtPlaces s
+  stmt_places Nop h = tt
+  stmt_places (Set to e) h = expr_places e h
+  stmt_places (SetAt slot n i e place) h = (expr_places i h.0, expr_places e h.1, h.2)
+  stmt_places (PutAt v n i e place) h = (expr_places i h.0, expr_places e h.1, h.2)
+  stmt_places (Clear slot n) h = tt
+  stmt_places (Seq list) h = stmts_places list h
+  stmt_places (If e a b) h = (expr_places e h.0, stmt_places a h.1, stmt_places b h.2)
+  stmt_places (While e bound body place) h = (expr_places e h.0, stmt_places body h.1, h.2)
+  stmt_places Pause h = tt
+  stmt_places (Par branches) h = branches_places branches h
+  stmt_places (Enter weak immediate e body) h = (expr_places e h.0, stmt_places body h.1)
+  stmt_places (Return e) h = expr_places e h
+
+  stmts_places : (list : Stmts) → StmtsHolds places list → StmtsPlaces list
+  stmts_places no_stmts h = tt
+  stmts_places (more_stmts s rest) h = (stmt_places s h.0, stmts_places rest h.1)
+
+-- ---- a kernel
 
 pub spelled_programs_have_places : SpelledProgramsHavePlaces
 spelled_programs_have_places bytes tokens names limit program small lexed spelled =
-    has_places program names (spelled_places limit program tokens spelled (lexed_places bytes tokens names spelled.spelt small lexed spelled.are))
+    let all = all_into (λ (t : Token). IsPlace t.place) (TokenHolds places) (λ t place. record { number = λ value is. tt; place = place }) tokens (cuts_places small lexed.lexes.cuts) in
+    let k = bodies_hold places program names (spelled_holds places limit program tokens spelled (lexed_holds places bytes tokens names spelled.spelt lexed spelled.are all)) in
+    record {
+      threads = all_into (StmtHolds places) StmtPlaces stmt_places (kernel_of program names).threads k.threads;
+      functions = all_into (StmtHolds places) StmtPlaces stmt_places (kernel_of program names).functions k.functions;
+    }

@@ -1,5 +1,8 @@
 pub mod Tokens
 pub mod Trees
+pub mod Kernels
 pub mod Spelled
 pub mod Lowered
+pub mod Bodies
+pub mod Words
 pub mod Whole
