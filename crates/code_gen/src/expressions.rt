@@ -71,37 +71,8 @@ pub fn emit_expression(
             };
             put(steps, operator)
         }
-        Expression::And { left, right } => {
-            emit_expression(steps, left)?;
-            let test = steps.len();
-            put(steps, Instruction::Zero { to: 0 })?;
-            emit_expression(steps, right)?;
-            let to = end_sides(steps, 0)?;
-            steps[test] = Instruction::Zero { to };
-            Ok(())
-        }
-        Expression::Or { left, right } => {
-            emit_expression(steps, left)?;
-            let test = steps.len();
-            put(steps, Instruction::NonZero { to: 0 })?;
-            emit_expression(steps, right)?;
-            let to = end_sides(steps, 1)?;
-            steps[test] = Instruction::NonZero { to };
-            Ok(())
-        }
-        Expression::Choose { test, yes, no } => {
-            emit_expression(steps, test)?;
-            let skip = steps.len();
-            put(steps, Instruction::Zero { to: 0 })?;
-            emit_expression(steps, yes)?;
-            let leave = steps.len();
-            put(steps, Instruction::Jump { to: 0 })?;
-            let other = address(steps)?;
-            emit_expression(steps, no)?;
-            let end = address(steps)?;
-            steps[skip] = Instruction::Zero { to: other };
-            steps[leave] = Instruction::Jump { to: end };
-            Ok(())
+        Expression::And { .. } | Expression::Or { .. } | Expression::Choose { .. } => {
+            emit_jumps(steps, expression)
         }
         Expression::Call { function, args } => {
             emit_expressions(steps, args)?;
@@ -157,6 +128,49 @@ fn emit_shared_at(
             place,
         },
     )
+}
+
+/// An `and`, an `or` or a choice; no other expression comes here.
+#[cycle(expression)]
+fn emit_jumps(steps: &mut Vec<Instruction>, expression: &Expression) -> Result<(), OutOfMemory>
+    ensures { OnOk result (steps.new.items ≡ steps.old.items
+        ++ expression_code (length steps.old.items) (expr expression.now)) }
+{
+    match expression {
+        Expression::And { left, right } => {
+            emit_expression(steps, left)?;
+            let test = steps.len();
+            put(steps, Instruction::Zero { to: 0 })?;
+            emit_expression(steps, right)?;
+            let to = end_sides(steps, 0)?;
+            steps[test] = Instruction::Zero { to };
+            Ok(())
+        }
+        Expression::Or { left, right } => {
+            emit_expression(steps, left)?;
+            let test = steps.len();
+            put(steps, Instruction::NonZero { to: 0 })?;
+            emit_expression(steps, right)?;
+            let to = end_sides(steps, 1)?;
+            steps[test] = Instruction::NonZero { to };
+            Ok(())
+        }
+        Expression::Choose { test, yes, no } => {
+            emit_expression(steps, test)?;
+            let skip = steps.len();
+            put(steps, Instruction::Zero { to: 0 })?;
+            emit_expression(steps, yes)?;
+            let leave = steps.len();
+            put(steps, Instruction::Jump { to: 0 })?;
+            let other = address(steps)?;
+            emit_expression(steps, no)?;
+            let end = address(steps)?;
+            steps[skip] = Instruction::Zero { to: other };
+            steps[leave] = Instruction::Jump { to: end };
+            Ok(())
+        }
+        _ => Err(OutOfMemory),
+    }
 }
 
 /// Behind the sides of an `and` or an `or`: the right side becomes 0 or 1. The result is the address that

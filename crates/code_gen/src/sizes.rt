@@ -2,9 +2,9 @@
 //! address is needed inside. A sum that passes 32 bits is past the most that a code may have, and is
 //! reported as out of memory.
 
-ghost use Rattle.std.specs.Prelude.{◌≡◌, ◌+◌, ◌++◌, map, OnOk, IfOk};
+ghost use Rattle.std.specs.Prelude.{◌≡◌, ◌+◌, ◌*◌, ◌++◌, map, OnOk, IfOk};
 ghost use Rattle.forec_kernel.specs.Plain.{expr, exprs, stmt, stmts, branch};
-ghost use Rattle.code_gen.specs.Sizes.{expression_length, expressions_length, arguments_length, entry_length, abort_length, statement_length, statements_length, abort_bodies, aborts_in, aborts_of};
+ghost use Rattle.code_gen.specs.Sizes.{counted_loops, expression_length, expressions_length, arguments_length, entry_length, abort_length, statement_length, statements_length, abort_bodies, aborts_in, aborts_of};
 
 use forec_base::OutOfMemory;
 use forec_kernel::{Expression, Launch, Statement};
@@ -15,6 +15,22 @@ fn add(a: u32, b: u32) -> Result<u32, OutOfMemory>
     a.checked_add(b).ok_or(OutOfMemory)
 }
 
+/// Two parts, and so many more instructions.
+fn sum(a: u32, b: u32, more: u32) -> Result<u32, OutOfMemory>
+    ensures { IfOk result (λ n. n ≡ a + b + more) }
+{
+    let both = add(a, b)?;
+    add(both, more)
+}
+
+/// A test and two branches.
+fn choice_size(test: u32, yes: u32, no: u32) -> Result<u32, OutOfMemory>
+    ensures { IfOk result (λ n. n ≡ test + (yes + no) + 2) }
+{
+    let sides = add(yes, no)?;
+    sum(test, sides, 2)
+}
+
 #[cycle(expression)]
 fn expression_size(expression: &Expression) -> Result<u32, OutOfMemory>
     ensures { IfOk result (λ n. n ≡ expression_length (expr expression.now)) }
@@ -23,39 +39,38 @@ fn expression_size(expression: &Expression) -> Result<u32, OutOfMemory>
         Expression::Number { .. } | Expression::Local { .. } | Expression::Variable { .. } => Ok(1),
         Expression::LocalAt { index, .. }
         | Expression::SharedAt { index, .. }
-        | Expression::TableAt { index, .. } => {
-            let inside = expression_size(index)?;
-            add(inside, 1)
-        }
-        Expression::Unary { of, .. } => {
-            let inside = expression_size(of)?;
-            add(inside, 1)
-        }
+        | Expression::TableAt { index, .. } => one_size(index),
+        Expression::Unary { of, .. } => one_size(of),
         Expression::Binary { left, right, .. } => {
             let first = expression_size(left)?;
             let second = expression_size(right)?;
-            let sides = add(first, second)?;
-            add(sides, 1)
+            sum(first, second, 1)
         }
         Expression::And { left, right } | Expression::Or { left, right } => {
             let first = expression_size(left)?;
             let second = expression_size(right)?;
-            let sides = add(first, second)?;
-            add(sides, 4)
+            sum(first, second, 4)
         }
         Expression::Choose { test, yes, no } => {
             let tested = expression_size(test)?;
             let first = expression_size(yes)?;
             let second = expression_size(no)?;
-            let sides = add(first, second)?;
-            let all = add(tested, sides)?;
-            add(all, 2)
+            choice_size(tested, first, second)
         }
         Expression::Call { args, .. } => {
             let inside = expressions_size(args)?;
             add(inside, 1)
         }
     }
+}
+
+/// An expression, and one more instruction.
+#[cycle(expression)]
+fn one_size(of: &Expression) -> Result<u32, OutOfMemory>
+    ensures { IfOk result (λ n. n ≡ expression_length (expr of.now) + 1) }
+{
+    let inside = expression_size(of)?;
+    add(inside, 1)
 }
 
 #[cycle(expression)]
@@ -107,15 +122,11 @@ pub fn statement_size(
 {
     match statement {
         Statement::Nop => Ok(0),
-        Statement::Set { value, .. } | Statement::Return { value } => {
-            let inside = expression_size(value)?;
-            add(inside, 1)
-        }
+        Statement::Set { value, .. } | Statement::Return { value } => one_size(value),
         Statement::SetAt { index, value, .. } | Statement::PutAt { index, value, .. } => {
             let first = expression_size(index)?;
             let second = expression_size(value)?;
-            let sides = add(first, second)?;
-            add(sides, 1)
+            sum(first, second, 1)
         }
         Statement::Clear { .. } => Ok(1),
         Statement::Sequence { list } => list_size(sizes, list, checks, prologue),
@@ -123,34 +134,16 @@ pub fn statement_size(
             let tested = expression_size(test)?;
             let first = statement_size(sizes, yes, checks, prologue)?;
             let second = statement_size(sizes, no, checks, prologue)?;
-            let sides = add(first, second)?;
-            let all = add(tested, sides)?;
-            add(all, 2)
+            choice_size(tested, first, second)
         }
         Statement::While {
             test,
             bound,
             body,
             ..
-        } => {
-            let counted = bound.is_some() as u32;
-            let tested = expression_size(test)?;
-            let behind = add(prologue, counted)?;
-            let inside = statement_size(sizes, body, checks, behind)?;
-            let all = add(tested, inside)?;
-            add(all, 2 + 2 * counted)
-        }
-        Statement::Pause => {
-            let around = add(checks, prologue)?;
-            add(around, 2)
-        }
-        Statement::Par { branches } => {
-            let inside = arguments_size(branches)?;
-            let twice = add(checks, checks)?;
-            let around = add(twice, prologue)?;
-            let all = add(inside, around)?;
-            add(all, 6)
-        }
+        } => while_size(sizes, body, test, *bound, checks, prologue),
+        Statement::Pause => sum(checks, prologue, 2),
+        Statement::Par { branches } => par_size(branches, checks, prologue),
         Statement::Enter {
             weak,
             immediate,
@@ -163,6 +156,36 @@ pub fn statement_size(
             add(entry, inside)
         }
     }
+}
+
+#[cycle(statement)]
+fn while_size(
+    sizes: &mut Vec<u32>,
+    body: &Statement,
+    test: &Expression,
+    bound: Option<u32>,
+    checks: u32,
+    prologue: u32,
+) -> Result<u32, OutOfMemory>
+    ensures size { IfOk result (λ n. n ≡ expression_length (expr test.now)
+        + statement_length checks (prologue + counted_loops bound) (stmt body.now)
+        + (2 + 2 * counted_loops bound)) }
+    ensures bodies { OnOk result (sizes.new.items ≡ sizes.old.items
+        ++ aborts_in checks (prologue + counted_loops bound) (stmt body.now)) }
+{
+    let counted = bound.is_some() as u32;
+    let tested = expression_size(test)?;
+    let behind = add(prologue, counted)?;
+    let inside = statement_size(sizes, body, checks, behind)?;
+    sum(tested, inside, 2 + 2 * counted)
+}
+
+fn par_size(branches: &[Launch], checks: u32, prologue: u32) -> Result<u32, OutOfMemory>
+    ensures { IfOk result (λ n. n ≡ arguments_length (map branch branches.now) + (checks + checks + prologue) + 6) }
+{
+    let inside = arguments_size(branches)?;
+    let around = sum(checks, checks, prologue)?;
+    sum(inside, around, 6)
 }
 
 /// The body of an abort whose test has so many instructions.

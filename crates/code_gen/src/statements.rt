@@ -3,7 +3,7 @@
 ghost use Rattle.std.specs.Prelude.{◌≡◌, ◌+◌, [], ◌∷◌, ◌++◌, length, map, OnOk, IfOk};
 ghost use Rattle.forec_kernel.specs.Plain.{expr, exprs, stmt, stmts, branch};
 ghost use Rattle.forec_kernel.specs.Shapes.{plain_thread};
-ghost use Rattle.forec_kernel.specs.Terms.{SetAt, PutAt, While, Enter};
+ghost use Rattle.forec_kernel.specs.Terms.{SetAt, PutAt, While, Par, Enter};
 ghost use Rattle.code_gen.specs.Statements.{loops, weaks, checks, prologue, wait_code, pause_code, fork_code, set_code, entry_code, par_number, arguments_code};
 ghost use Rattle.code_gen.specs.Arounds.{plain_around, optional_instruction};
 ghost use Rattle.code_gen.specs.StatementCode.{assignment_code, code_within, codes_within, loop_within};
@@ -196,6 +196,19 @@ fn emit_arguments(steps: &mut Vec<Instruction>, branches: &[Launch]) -> Result<(
     Ok(())
 }
 
+fn emit_par(
+    steps: &mut Vec<Instruction>,
+    branches: &[Launch],
+    surroundings: &Surroundings<'_>,
+) -> Result<(), OutOfMemory>
+    ensures { OnOk result (steps.new.items ≡ steps.old.items
+        ++ code_within surroundings.now (length steps.old.items) (Par (map branch branches.now))) }
+{
+    emit_arguments(steps, branches)?;
+    let par = number_of(surroundings.threads, branches);
+    emit_fork(steps, par, surroundings)
+}
+
 fn emit_set_at(
     steps: &mut Vec<Instruction>,
     slot: u32,
@@ -380,6 +393,35 @@ impl Emitter {
         }
     }
 
+    /// Two branches after a test; no other statement comes here.
+    #[cycle(statement)]
+    fn emit_if(
+        &mut self,
+        statement: &Statement,
+        surroundings: &Surroundings<'_>,
+    ) -> Result<(), OutOfMemory>
+        ensures { OnOk result (self.new.steps.items ≡ self.old.steps.items
+            ++ code_within surroundings.now (length self.old.steps.items) (stmt statement.now)) }
+    {
+        match statement {
+            Statement::If { test, yes, no } => {
+                emit_expression(&mut self.steps, test)?;
+                let skip = self.steps.len();
+                put(&mut self.steps, Instruction::Zero { to: 0 })?;
+                self.emit_statement(yes, surroundings)?;
+                let leave = self.steps.len();
+                put(&mut self.steps, Instruction::Jump { to: 0 })?;
+                let other = address(&self.steps)?;
+                self.emit_statement(no, surroundings)?;
+                let end = address(&self.steps)?;
+                self.steps[skip] = Instruction::Zero { to: other };
+                self.steps[leave] = Instruction::Jump { to: end };
+                Ok(())
+            }
+            _ => Err(OutOfMemory),
+        }
+    }
+
     /// Writes a statement's code.
     #[cycle(statement)]
     pub fn emit_statement(
@@ -418,20 +460,7 @@ impl Emitter {
                 put(&mut self.steps, clear)
             }
             Statement::Sequence { list } => self.emit_list(list, surroundings),
-            Statement::If { test, yes, no } => {
-                emit_expression(&mut self.steps, test)?;
-                let skip = self.steps.len();
-                put(&mut self.steps, Instruction::Zero { to: 0 })?;
-                self.emit_statement(yes, surroundings)?;
-                let leave = self.steps.len();
-                put(&mut self.steps, Instruction::Jump { to: 0 })?;
-                let other = address(&self.steps)?;
-                self.emit_statement(no, surroundings)?;
-                let end = address(&self.steps)?;
-                self.steps[skip] = Instruction::Zero { to: other };
-                self.steps[leave] = Instruction::Jump { to: end };
-                Ok(())
-            }
+            Statement::If { .. } => self.emit_if(statement, surroundings),
             Statement::While {
                 test,
                 bound,
@@ -439,11 +468,7 @@ impl Emitter {
                 place,
             } => self.emit_while(body, test, *bound, *place, surroundings),
             Statement::Pause => emit_pause(&mut self.steps, surroundings),
-            Statement::Par { branches } => {
-                emit_arguments(&mut self.steps, branches)?;
-                let par = number_of(surroundings.threads, branches);
-                emit_fork(&mut self.steps, par, surroundings)
-            }
+            Statement::Par { branches } => emit_par(&mut self.steps, branches, surroundings),
             Statement::Enter {
                 weak,
                 immediate,

@@ -20,18 +20,18 @@ emit_expression-returns-in_ok-emit_expressions-in-Call t c =
     ap (λ l. l ++ end) args ∙ append_assoc base (expressions_code (length base) xs) end ∙ ap (λ x. base ++ expression_code (length base) x) (sym same) in
     subst (λ l. OnOk c.put-in-Call.result (c.put-in-Call.new.steps.items ≡ l)) e c.put-in-Call.ensures
 
-pub emit_expression-returns-in_ok-to-in-And : goal.emit_expression-returns-in_ok-to-in-And
-emit_expression-returns-in_ok-to-in-And t c =
+pub emit_jumps-returns-in_ok-to-in-And : goal.emit_jumps-returns-in_ok-to-in-And
+emit_jumps-returns-in_ok-to-in-And t c =
     let base = c.args.steps.now.items in
     let len = length base in
-    patch_sides base _ _ _ _ (expr c.deref-in-And.result.now) (expr c.deref-in-And-2.result.now) _ (λ to. instruction.Zero to) (pos 0) _ _ c.in_ok-emit_expression-in-And.ensures
-    (c.len-test.ensures ∙ c.emit_expression-in-And.new.steps.ok.0) c.in_ok-put-in-And.ensures c.in_ok-emit_expression-in-And-2.ensures c.in_ok-to-in-And.ensures.code c.in_ok-to-in-And.ensures.at
-    ∙ ap (λ x. base ++ expression_code len (plain.And (expr x) (expr c.deref-in-And-2.result.now))) c.deref-in-And.ensures
-    ∙ ap (λ x. base ++ expression_code len (plain.And (expr c.in-And.left.value) (expr x))) c.deref-in-And-2.ensures
+    patch_sides base _ _ _ _ (expr c.deref.result.now) (expr c.deref-in-And.result.now) _ (λ to. instruction.Zero to) (pos 0) _ _ c.in_ok-emit_expression-in-And.ensures
+    (c.len-test.ensures ∙ c.emit_expression.new.steps.ok.0) c.in_ok-put-in-And.ensures c.in_ok-emit_expression-in-And-2.ensures c.in_ok-to-in-And.ensures.code c.in_ok-to-in-And.ensures.at
+    ∙ ap (λ x. base ++ expression_code len (plain.And (expr x) (expr c.deref-in-And.result.now))) c.deref.ensures
+    ∙ ap (λ x. base ++ expression_code len (plain.And (expr c.in-And.left.value) (expr x))) c.deref-in-And.ensures
     ∙ ap (λ x. base ++ expression_code len (expr x)) (sym c.in-And.is)
 
-pub emit_expression-returns-in_ok-to-in-Or : goal.emit_expression-returns-in_ok-to-in-Or
-emit_expression-returns-in_ok-to-in-Or t c =
+pub emit_jumps-returns-in_ok-to-in-Or : goal.emit_jumps-returns-in_ok-to-in-Or
+emit_jumps-returns-in_ok-to-in-Or t c =
     let base = c.args.steps.now.items in
     let len = length base in
     patch_sides base _ _ _ _ (expr c.deref-in-Or.result.now) (expr c.deref-in-Or-2.result.now) _ (λ to. instruction.NonZero to) (pos 1) _ _ c.in_ok-emit_expression-in-Or.ensures
@@ -40,8 +40,8 @@ emit_expression-returns-in_ok-to-in-Or t c =
     ∙ ap (λ x. base ++ expression_code len (plain.Or (expr c.in-Or.left.value) (expr x))) c.deref-in-Or-2.ensures
     ∙ ap (λ x. base ++ expression_code len (expr x)) (sym c.in-Or.is)
 
-pub emit_expression-returns-in_ok-end-in-Choose : goal.emit_expression-returns-in_ok-end-in-Choose
-emit_expression-returns-in_ok-end-in-Choose t c =
+pub emit_jumps-returns-in_ok-end-in-Choose : goal.emit_jumps-returns-in_ok-end-in-Choose
+emit_jumps-returns-in_ok-end-in-Choose t c =
     let base = c.args.steps.now.items in
     let len = length base in
     let test = expr c.deref-in-Choose.result.now in
