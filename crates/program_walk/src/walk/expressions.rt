@@ -53,39 +53,28 @@ impl Context<'_, '_> {
     {
         match &e.what {
             ExprKind::Number { .. } => Ok(()),
-            ExprKind::Read { name } => {
-                self.use_name(scope, How::Reads, *name, notes)?;
-                Ok(())
-            }
+            ExprKind::Read { name } => self.use_name(scope, How::Reads, *name, notes),
             ExprKind::Element { name, index: at } => {
                 self.use_name(scope, How::Indexes, *name, notes)?;
-                self.expression(scope, at, notes)?;
-                Ok(())
+                self.expression(scope, at, notes)
             }
-            ExprKind::Unary { of, .. } => {
-                self.expression(scope, of, notes)?;
-                Ok(())
-            }
+            ExprKind::Unary { of, .. } => self.expression(scope, of, notes),
             ExprKind::Binary { left, right, .. } => {
                 self.expression(scope, left, notes)?;
-                self.expression(scope, right, notes)?;
-                Ok(())
+                self.expression(scope, right, notes)
             }
             ExprKind::And { left, right } => {
                 self.expression(scope, left, notes)?;
-                self.expression(scope, right, notes)?;
-                Ok(())
+                self.expression(scope, right, notes)
             }
             ExprKind::Or { left, right } => {
                 self.expression(scope, left, notes)?;
-                self.expression(scope, right, notes)?;
-                Ok(())
+                self.expression(scope, right, notes)
             }
             ExprKind::Choose { test, yes, no } => {
                 self.expression(scope, test, notes)?;
                 self.expression(scope, yes, notes)?;
-                self.expression(scope, no, notes)?;
-                Ok(())
+                self.expression(scope, no, notes)
             }
             ExprKind::Call { name, args } => {
                 self.use_name(scope, How::Computes { args: args.len() }, *name, notes)?;

@@ -148,39 +148,29 @@ impl Context<'_, '_> {
     {
         match &s.what {
             StmtKind::Nothing => Ok(()),
-            StmtKind::Group { body } => {
-                self.block(scope, body.as_slice(), notes)?;
-                Ok(())
-            }
-            StmtKind::Declare { locals: list } => {
-                self.locals(scope, list.as_slice(), notes)?;
-                Ok(())
-            }
+            StmtKind::Group { body } => self.block(scope, body.as_slice(), notes),
+            StmtKind::Declare { locals: list } => self.locals(scope, list.as_slice(), notes),
             StmtKind::Assign {
                 target: to,
                 value,
                 ..
             } => {
                 self.target(scope, to, notes)?;
-                self.expression(scope, value, notes)?;
-                Ok(())
+                self.expression(scope, value, notes)
             }
             StmtKind::Call { name, args } => {
                 self.use_name(scope, How::Runs { args: args.len() }, *name, notes)?;
-                self.expressions(scope, args.as_slice(), notes)?;
-                Ok(())
+                self.expressions(scope, args.as_slice(), notes)
             }
             StmtKind::If { test, yes, no } => {
                 self.expression(scope, test, notes)?;
                 self.scoped_statement(scope, yes, notes)?;
-                self.optional_scoped_statement(scope, no, notes)?;
-                Ok(())
+                self.optional_scoped_statement(scope, no, notes)
             }
             StmtKind::While { test, bound, body } => {
                 self.bound(*bound, notes);
                 self.expression(scope, test, notes)?;
-                self.scoped_statement(scope, body, notes)?;
-                Ok(())
+                self.scoped_statement(scope, body, notes)
             }
             StmtKind::For {
                 start,
@@ -204,19 +194,16 @@ impl Context<'_, '_> {
             }
             StmtKind::Par { branches: list } => {
                 self.judge_synchronous(s.place, notes);
-                self.branches(scope, list.as_slice(), notes)?;
-                Ok(())
+                self.branches(scope, list.as_slice(), notes)
             }
             StmtKind::Abort { test, body, .. } => {
                 self.judge_synchronous(s.place, notes);
                 self.expression(scope, test, notes)?;
-                self.block(scope, body.as_slice(), notes)?;
-                Ok(())
+                self.block(scope, body.as_slice(), notes)
             }
             StmtKind::Return { value } => {
                 self.judge_return(s.place, notes);
-                self.expression(scope, value, notes)?;
-                Ok(())
+                self.expression(scope, value, notes)
             }
         }
     }
@@ -335,14 +322,12 @@ impl Context<'_, '_> {
         match one {
             Branch::Call { name, args } => {
                 self.use_name(scope, How::Starts { args: args.len() }, *name, notes)?;
-                self.expressions(scope, args.as_slice(), notes)?;
-                Ok(())
+                self.expressions(scope, args.as_slice(), notes)
             }
             Branch::Group { body, .. } => {
                 self.open_branch(notes)?;
                 self.branch_block(scope, body.as_slice(), notes)?;
-                self.close_branch(notes)?;
-                Ok(())
+                self.close_branch(notes)
             }
         }
     }

@@ -1,4 +1,5 @@
 use Rattle.std.proofs.Common.{sym}
+use Rattle.std.proofs.lemmas.Result.{on_ok_weaker}
 use Rattle.program_walk.specs.Views.{judging_in, text_in, scope_of}
 use Rattle.program_walk.specs.Walk.{notes_of}
 use Rattle.program_walk.proofs.WalkLemmas.{walked-none}
@@ -25,36 +26,51 @@ returns-in-Number t c =
     of_kind _ _ _ _ _ c.args.e.now _ c.in-Number.is
     (sym (walked-none _ _))
 
-pub returns-in_ok-expression-in-Element : goal.returns-in_ok-expression-in-Element
-returns-in_ok-expression-in-Element t c =
+pub returns-in_ok-use_name-in-Element : goal.returns-in_ok-use_name-in-Element
+returns-in_ok-use_name-in-Element t c =
+    on_ok_weaker c.expression.result
+    (λ h.
     of_kind _ _ _ _ _ c.args.e.now _ c.in-Element.is
-    (then _ _ _ _ (notes_of c.use_name-in-Element.new.notes) (notes_of c.expression.new.notes) c.in_ok-use_name-in-Element.ensures (part _ _ _ _ _ _ _ c.deref.ensures c.in_ok-expression-in-Element.ensures))
+    (then _ _ _ _ (notes_of c.use_name-in-Element.new.notes) (notes_of c.expression.new.notes) c.in_ok-use_name-in-Element.ensures (part _ _ _ _ _ _ _ c.deref.ensures h)))
+    c.expression.ensures
 
-pub returns-in_ok-expression-in-Binary-2 : goal.returns-in_ok-expression-in-Binary-2
-returns-in_ok-expression-in-Binary-2 t c =
+pub returns-in_ok-expression-in-Binary : goal.returns-in_ok-expression-in-Binary
+returns-in_ok-expression-in-Binary t c =
+    on_ok_weaker c.expression-in-Binary-2.result
+    (λ h.
     of_kind _ _ _ _ _ c.args.e.now _ c.in-Binary.is
-    (two _ _ _ _ (notes_of c.expression-in-Binary.new.notes) (notes_of c.expression-in-Binary-2.new.notes) (part _ _ _ _ _ _ _ c.deref-in-Binary.ensures c.in_ok-expression-in-Binary.ensures) (part _ _ _ _ _ _ _ c.deref-in-Binary-2.ensures c.in_ok-expression-in-Binary-2.ensures))
+    (two _ _ _ _ (notes_of c.expression-in-Binary.new.notes) (notes_of c.expression-in-Binary-2.new.notes) (part _ _ _ _ _ _ _ c.deref-in-Binary.ensures c.in_ok-expression-in-Binary.ensures) (part _ _ _ _ _ _ _ c.deref-in-Binary-2.ensures h)))
+    c.expression-in-Binary-2.ensures
 
-pub returns-in_ok-expression-in-And-2 : goal.returns-in_ok-expression-in-And-2
-returns-in_ok-expression-in-And-2 t c =
+pub returns-in_ok-expression-in-And : goal.returns-in_ok-expression-in-And
+returns-in_ok-expression-in-And t c =
+    on_ok_weaker c.expression-in-And-2.result
+    (λ h.
     of_kind _ _ _ _ _ c.args.e.now _ c.in-And.is
-    (two _ _ _ _ (notes_of c.expression-in-And.new.notes) (notes_of c.expression-in-And-2.new.notes) (part _ _ _ _ _ _ _ c.deref-in-And.ensures c.in_ok-expression-in-And.ensures) (part _ _ _ _ _ _ _ c.deref-in-And-2.ensures c.in_ok-expression-in-And-2.ensures))
+    (two _ _ _ _ (notes_of c.expression-in-And.new.notes) (notes_of c.expression-in-And-2.new.notes) (part _ _ _ _ _ _ _ c.deref-in-And.ensures c.in_ok-expression-in-And.ensures) (part _ _ _ _ _ _ _ c.deref-in-And-2.ensures h)))
+    c.expression-in-And-2.ensures
 
-pub returns-in_ok-expression-in-Or-2 : goal.returns-in_ok-expression-in-Or-2
-returns-in_ok-expression-in-Or-2 t c =
+pub returns-in_ok-expression-in-Or : goal.returns-in_ok-expression-in-Or
+returns-in_ok-expression-in-Or t c =
+    on_ok_weaker c.expression-in-Or-2.result
+    (λ h.
     of_kind _ _ _ _ _ c.args.e.now _ c.in-Or.is
-    (two _ _ _ _ (notes_of c.expression-in-Or.new.notes) (notes_of c.expression-in-Or-2.new.notes) (part _ _ _ _ _ _ _ c.deref-in-Or.ensures c.in_ok-expression-in-Or.ensures) (part _ _ _ _ _ _ _ c.deref-in-Or-2.ensures c.in_ok-expression-in-Or-2.ensures))
+    (two _ _ _ _ (notes_of c.expression-in-Or.new.notes) (notes_of c.expression-in-Or-2.new.notes) (part _ _ _ _ _ _ _ c.deref-in-Or.ensures c.in_ok-expression-in-Or.ensures) (part _ _ _ _ _ _ _ c.deref-in-Or-2.ensures h)))
+    c.expression-in-Or-2.ensures
 
-pub returns-in_ok-expression-in-Choose-3 : goal.returns-in_ok-expression-in-Choose-3
-returns-in_ok-expression-in-Choose-3 t c =
+pub returns-in_ok-expression-in-Choose-2 : goal.returns-in_ok-expression-in-Choose-2
+returns-in_ok-expression-in-Choose-2 t c =
+    on_ok_weaker c.expression-in-Choose-3.result
+    (λ h.
     of_kind _ _ _ _ _ c.args.e.now _ c.in-Choose.is
     (three _ _ _ _ _ (notes_of c.expression-in-Choose.new.notes) (notes_of c.expression-in-Choose-2.new.notes) (notes_of c.expression-in-Choose-3.new.notes)
-    (part _ _ _ _ _ _ _ c.deref-in-Choose.ensures c.in_ok-expression-in-Choose.ensures) (part _ _ _ _ _ _ _ c.deref-in-Choose-2.ensures c.in_ok-expression-in-Choose-2.ensures) (part _ _ _ _ _ _ _ c.deref-in-Choose-3.ensures c.in_ok-expression-in-Choose-3.ensures))
+    (part _ _ _ _ _ _ _ c.deref-in-Choose.ensures c.in_ok-expression-in-Choose.ensures) (part _ _ _ _ _ _ _ c.deref-in-Choose-2.ensures c.in_ok-expression-in-Choose-2.ensures) (part _ _ _ _ _ _ _ c.deref-in-Choose-3.ensures h)))
+    c.expression-in-Choose-3.ensures
 
-pub returns-in_ok-use_name-in-Read : goal.returns-in_ok-use_name-in-Read
-returns-in_ok-use_name-in-Read t c =
-    of_kind _ _ _ _ _ c.args.e.now _ c.in-Read.is c.in_ok-use_name-in-Read.ensures
+pub returns-in-Read : goal.returns-in-Read
+returns-in-Read t c =
+    on_ok_weaker c.use_name.result (λ h. of_kind _ _ _ _ _ c.args.e.now _ c.in-Read.is h) c.use_name.ensures
 
-pub returns-in_ok-expression-in-Unary : goal.returns-in_ok-expression-in-Unary
-returns-in_ok-expression-in-Unary t c =
-    of_kind _ _ _ _ _ c.args.e.now _ c.in-Unary.is (part _ _ _ _ _ _ _ c.deref-in-Unary.ensures c.in_ok-expression-in-Unary.ensures)
+pub returns-in-Unary : goal.returns-in-Unary
+returns-in-Unary t c =
+    on_ok_weaker c.expression-in-Unary.result (λ h. of_kind _ _ _ _ _ c.args.e.now _ c.in-Unary.is (part _ _ _ _ _ _ _ c.deref-in-Unary.ensures h)) c.expression-in-Unary.ensures
