@@ -2,7 +2,7 @@
 
 ghost use Rattle.std.specs.Prelude.{◌≡◌, ◌+◌, [], ◌∷◌, ◌++◌, length, OnOk, IfOk};
 ghost use Rattle.forec_kernel.specs.Plain.{expr, exprs};
-ghost use Rattle.forec_kernel.specs.Terms.{LocalAt, SharedAt, And, Or, Choose};
+ghost use Rattle.forec_kernel.specs.Terms.{LocalAt, SharedAt};
 ghost use Rattle.thread_code.specs.declared.instruction.Instruction.TheVariants.{Truth, Jump, Quiet};
 ghost use Rattle.code_gen.specs.Expressions.{expression_code, expressions_code};
 
@@ -71,9 +71,38 @@ pub fn emit_expression(
             };
             put(steps, operator)
         }
-        Expression::And { left, right } => emit_and(steps, left, right),
-        Expression::Or { left, right } => emit_or(steps, left, right),
-        Expression::Choose { test, yes, no } => emit_choose(steps, test, yes, no),
+        Expression::And { left, right } => {
+            emit_expression(steps, left)?;
+            let test = steps.len();
+            put(steps, Instruction::Zero { to: 0 })?;
+            emit_expression(steps, right)?;
+            let to = end_sides(steps, 0)?;
+            steps[test] = Instruction::Zero { to };
+            Ok(())
+        }
+        Expression::Or { left, right } => {
+            emit_expression(steps, left)?;
+            let test = steps.len();
+            put(steps, Instruction::NonZero { to: 0 })?;
+            emit_expression(steps, right)?;
+            let to = end_sides(steps, 1)?;
+            steps[test] = Instruction::NonZero { to };
+            Ok(())
+        }
+        Expression::Choose { test, yes, no } => {
+            emit_expression(steps, test)?;
+            let skip = steps.len();
+            put(steps, Instruction::Zero { to: 0 })?;
+            emit_expression(steps, yes)?;
+            let leave = steps.len();
+            put(steps, Instruction::Jump { to: 0 })?;
+            let other = address(steps)?;
+            emit_expression(steps, no)?;
+            let end = address(steps)?;
+            steps[skip] = Instruction::Zero { to: other };
+            steps[leave] = Instruction::Jump { to: end };
+            Ok(())
+        }
         Expression::Call { function, args } => {
             emit_expressions(steps, args)?;
             put(
@@ -128,66 +157,6 @@ fn emit_shared_at(
             place,
         },
     )
-}
-
-#[cycle(expression)]
-fn emit_and(
-    steps: &mut Vec<Instruction>,
-    left: &Expression,
-    right: &Expression,
-) -> Result<(), OutOfMemory>
-    ensures { OnOk result (steps.new.items ≡ steps.old.items
-        ++ expression_code (length steps.old.items) (And (expr left.now) (expr right.now))) }
-{
-    emit_expression(steps, left)?;
-    let test = steps.len();
-    put(steps, Instruction::Zero { to: 0 })?;
-    emit_expression(steps, right)?;
-    let to = end_sides(steps, 0)?;
-    steps[test] = Instruction::Zero { to };
-    Ok(())
-}
-
-#[cycle(expression)]
-fn emit_or(
-    steps: &mut Vec<Instruction>,
-    left: &Expression,
-    right: &Expression,
-) -> Result<(), OutOfMemory>
-    ensures { OnOk result (steps.new.items ≡ steps.old.items
-        ++ expression_code (length steps.old.items) (Or (expr left.now) (expr right.now))) }
-{
-    emit_expression(steps, left)?;
-    let test = steps.len();
-    put(steps, Instruction::NonZero { to: 0 })?;
-    emit_expression(steps, right)?;
-    let to = end_sides(steps, 1)?;
-    steps[test] = Instruction::NonZero { to };
-    Ok(())
-}
-
-#[cycle(expression)]
-fn emit_choose(
-    steps: &mut Vec<Instruction>,
-    test: &Expression,
-    yes: &Expression,
-    no: &Expression,
-) -> Result<(), OutOfMemory>
-    ensures { OnOk result (steps.new.items ≡ steps.old.items
-        ++ expression_code (length steps.old.items) (Choose (expr test.now) (expr yes.now) (expr no.now))) }
-{
-    emit_expression(steps, test)?;
-    let skip = steps.len();
-    put(steps, Instruction::Zero { to: 0 })?;
-    emit_expression(steps, yes)?;
-    let leave = steps.len();
-    put(steps, Instruction::Jump { to: 0 })?;
-    let other = address(steps)?;
-    emit_expression(steps, no)?;
-    let end = address(steps)?;
-    steps[skip] = Instruction::Zero { to: other };
-    steps[leave] = Instruction::Jump { to: end };
-    Ok(())
 }
 
 /// Behind the sides of an `and` or an `or`: the right side becomes 0 or 1. The result is the address that

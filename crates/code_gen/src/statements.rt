@@ -3,7 +3,7 @@
 ghost use Rattle.std.specs.Prelude.{◌≡◌, ◌+◌, [], ◌∷◌, ◌++◌, length, map, OnOk, IfOk};
 ghost use Rattle.forec_kernel.specs.Plain.{expr, exprs, stmt, stmts, branch};
 ghost use Rattle.forec_kernel.specs.Shapes.{plain_thread};
-ghost use Rattle.forec_kernel.specs.Terms.{SetAt, PutAt, If, While, Par, Enter};
+ghost use Rattle.forec_kernel.specs.Terms.{SetAt, PutAt, While, Par, Enter};
 ghost use Rattle.code_gen.specs.Statements.{loops, weaks, checks, prologue, wait_code, pause_code, fork_code, set_code, entry_code, par_number, arguments_code};
 ghost use Rattle.code_gen.specs.Arounds.{plain_around, optional_instruction};
 ghost use Rattle.code_gen.specs.StatementCode.{assignment_code, code_within, codes_within, loop_within};
@@ -393,32 +393,6 @@ impl Emitter {
         }
     }
 
-    #[cycle(statement)]
-    fn emit_if(
-        &mut self,
-        test: &Expression,
-        yes: &Statement,
-        no: &Statement,
-        surroundings: &Surroundings<'_>,
-    ) -> Result<(), OutOfMemory>
-        ensures { OnOk result (self.new.steps.items ≡ self.old.steps.items
-            ++ code_within surroundings.now (length self.old.steps.items)
-            (If (expr test.now) (stmt yes.now) (stmt no.now))) }
-    {
-        emit_expression(&mut self.steps, test)?;
-        let skip = self.steps.len();
-        put(&mut self.steps, Instruction::Zero { to: 0 })?;
-        self.emit_statement(yes, surroundings)?;
-        let leave = self.steps.len();
-        put(&mut self.steps, Instruction::Jump { to: 0 })?;
-        let other = address(&self.steps)?;
-        self.emit_statement(no, surroundings)?;
-        let end = address(&self.steps)?;
-        self.steps[skip] = Instruction::Zero { to: other };
-        self.steps[leave] = Instruction::Jump { to: end };
-        Ok(())
-    }
-
     /// Writes a statement's code.
     #[cycle(statement)]
     pub fn emit_statement(
@@ -457,7 +431,20 @@ impl Emitter {
                 put(&mut self.steps, clear)
             }
             Statement::Sequence { list } => self.emit_list(list, surroundings),
-            Statement::If { test, yes, no } => self.emit_if(test, yes, no, surroundings),
+            Statement::If { test, yes, no } => {
+                emit_expression(&mut self.steps, test)?;
+                let skip = self.steps.len();
+                put(&mut self.steps, Instruction::Zero { to: 0 })?;
+                self.emit_statement(yes, surroundings)?;
+                let leave = self.steps.len();
+                put(&mut self.steps, Instruction::Jump { to: 0 })?;
+                let other = address(&self.steps)?;
+                self.emit_statement(no, surroundings)?;
+                let end = address(&self.steps)?;
+                self.steps[skip] = Instruction::Zero { to: other };
+                self.steps[leave] = Instruction::Jump { to: end };
+                Ok(())
+            }
             Statement::While {
                 test,
                 bound,

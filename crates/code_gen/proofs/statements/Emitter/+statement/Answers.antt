@@ -32,11 +32,18 @@ emit_statement-returns-in-Sequence t c =
     let e = ap (λ l. base ++ statements_code ts a (length base) (stmts l)) c.deref.ensures.value ∙ ap (λ x. base ++ statement_code ts a (length base) x) (sym same) in
     subst (λ l. OnOk c.emit_list.result (c.emit_list.new.self.steps.items ≡ l)) e c.emit_list.ensures
 
-pub emit_if-returns : goal.emit_if-returns
-emit_if-returns t c =
+pub emit_statement-returns-in_ok-end-in-If : goal.emit_statement-returns-in_ok-end-in-If
+emit_statement-returns-in_ok-end-in-If t c =
     let ts = map plain_thread c.args.surroundings.now.threads.now in
     let a = plain_around c.args.surroundings.now.around.now in
     let base = c.args.self.now.steps.items in
-    patch_if base _ _ _ _ _ (expression_code (length base) (expr c.args.test.now)) (λ q. statement_code ts a q (stmt c.args.yes.now)) (λ r. statement_code ts a r (stmt c.args.no.now)) _ _ _ _ _ _
-    c.in_ok-emit_expression.ensures (c.len-skip.ensures ∙ c.emit_expression.new.steps.ok.0) c.in_ok-put.ensures c.in_ok-emit_statement.ensures
-    (c.len-leave.ensures ∙ c.emit_statement.new.self.steps.ok.0) c.in_ok-put-2.ensures c.in_ok-other.ensures.at c.in_ok-emit_statement-2.ensures c.in_ok-end.ensures.at
+    let len = length base in
+    let test = expr c.in-If.test in
+    let then = stmt c.deref-in-If.result.now in
+    let other = stmt c.deref-in-If-2.result.now in
+    patch_if base _ _ _ _ _ (expression_code len test) (λ q. statement_code ts a q then) (λ r. statement_code ts a r other) _ _ _ _ _ _ c.in_ok-emit_expression-in-If.ensures
+    (c.len-skip.ensures ∙ c.emit_expression-in-If.new.steps.ok.0) c.in_ok-put-in-If.ensures c.in_ok-emit_statement-in-If.ensures
+    (c.len-leave.ensures ∙ c.emit_statement.new.self.steps.ok.0) c.in_ok-put-in-If-2.ensures c.in_ok-other-in-If.ensures.at c.in_ok-emit_statement-in-If-2.ensures c.in_ok-end-in-If.ensures.at
+    ∙ ap (λ x. base ++ statement_code ts a len (plain.If test (stmt x) other)) c.deref-in-If.ensures
+    ∙ ap (λ x. base ++ statement_code ts a len (plain.If test (stmt c.in-If.yes.value) (stmt x))) c.deref-in-If-2.ensures
+    ∙ ap (λ x. base ++ statement_code ts a len (stmt x)) (sym c.in-If.is)
