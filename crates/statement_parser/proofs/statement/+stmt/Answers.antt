@@ -17,13 +17,13 @@ pub body-loop-turn-preserved : goal.body-loop-turn-preserved
 unfolding body_from
 body-loop-turn-preserved t c =
     let e = next_turn (λ n. body_from max_level (read_statement max_level c.args.depth) n (map statement c.loop-turn.found) c.loop-turn.tokens) _ c.loop-turn._turn c.loop-turn-test.true c.loop-turn.invariant in
-    first_of (search rules, grind (arith, map-append, common_steps))
+    grind (arith, map-append, common_steps)
 
 pub launches-loop-turn-preserved : goal.launches-loop-turn-preserved
 unfolding separated_from
 launches-loop-turn-preserved t c =
     let e = next_turn (λ n. separated_from (launch max_level (read_statement max_level c.args.depth)) n (map launch_of c.loop-turn.found) c.loop-turn.tokens) _ c.loop-turn._turn c.loop-turn-test.true c.loop-turn.invariant in
-    first_of (search rules, grind (arith, map-append, common_steps))
+    grind (arith, map-append, common_steps)
 
 pub launches-returns-in_err-take : goal.launches-returns-in_err-take
 unfolding separated_from
