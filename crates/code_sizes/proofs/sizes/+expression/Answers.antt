@@ -1,8 +1,8 @@
 use Rattle.std.proofs.Common.{◌≡◌, ◌+◌, ap, sym, ◌∙◌, subst, IfOk}
 use Rattle.forec_kernel.specs.Plain.{expr, exprs}
 use Rattle.forec_kernel.proofs.VecTerms.{expr-call}
-use Rattle.code_gen.specs.Sizes.{expression_length, expressions_length}
-use Rattle.code_gen.proofs.sizes.+expression.Goals as goal
+use Rattle.code_sizes.specs.Sizes.{expression_length, expressions_length}
+use Rattle.code_sizes.proofs.sizes.+expression.Goals as goal
 
 pub expression_size-returns-in_ok-inside-in-Call : goal.expression_size-returns-in_ok-inside-in-Call
 expression_size-returns-in_ok-inside-in-Call t c =

@@ -1,9 +1,9 @@
 use Rattle.std.proofs.Common.{◌≡◌, ◌+◌, ◌∷◌, ◌++◌, ap, sym, ◌∙◌, subst, IfOk, OnOk}
 use Rattle.forec_kernel.specs.Plain.{stmt, stmts}
 use Rattle.forec_kernel.proofs.VecTerms.{stmt-sequence}
-use Rattle.code_gen.specs.Sizes.{count_if, statement_length, statements_length, aborts_in, aborts_of}
-use Rattle.code_gen.proofs.Counted.{put_size, one_byte}
-use Rattle.code_gen.proofs.sizes.+statement.Goals as goal
+use Rattle.code_sizes.specs.Sizes.{count_if, statement_length, statements_length, aborts_in, aborts_of}
+use Rattle.code_sizes.proofs.Sizing.{put_size, one_byte}
+use Rattle.code_sizes.proofs.sizes.+statement.Goals as goal
 
 pub abort_size-returns-clause-bodies : goal.abort_size-returns-clause-bodies
 abort_size-returns-clause-bodies t c =

@@ -1,7 +1,7 @@
 use Rattle.std.proofs.Common.{◌≡◌, ◌+◌, ◌++◌, drop}
 use Rattle.forec_kernel.specs.Plain.{stmts}
-use Rattle.code_gen.specs.Sizes.{statements_length, aborts_of}
-use Rattle.code_gen.proofs.sizes.+statement.Given as goal
+use Rattle.code_sizes.specs.Sizes.{statements_length, aborts_of}
+use Rattle.code_sizes.proofs.sizes.+statement.Given as goal
 
 abbrev pub invariant-list_size-loop-statement : goal.invariant-list_size-loop-statement
 invariant-list_size-loop-statement l =

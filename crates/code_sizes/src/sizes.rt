@@ -4,7 +4,7 @@
 
 ghost use Rattle.std.specs.Prelude.{◌≡◌, ◌+◌, ◌*◌, ◌++◌, map, OnOk, IfOk};
 ghost use Rattle.forec_kernel.specs.Plain.{expr, exprs, stmt, stmts, branch};
-ghost use Rattle.code_gen.specs.Sizes.{counted_loops, expression_length, expressions_length, arguments_length, entry_length, abort_length, statement_length, statements_length, abort_bodies, aborts_in, aborts_of};
+ghost use Rattle.code_sizes.specs.Sizes.{counted_loops, expression_length, expressions_length, arguments_length, entry_length, abort_length, statement_length, statements_length, abort_bodies, aborts_in, aborts_of};
 
 use forec_base::OutOfMemory;
 use forec_kernel::{Expression, Launch, Statement};
