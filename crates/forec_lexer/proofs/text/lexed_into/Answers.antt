@@ -8,13 +8,13 @@ use Rattle.std.specs.List.{fold}
 use Rattle.forec_lexer.specs.Reading.{shown}
 use Rattle.forec_lexer.specs.Answers.{kept, IsFull, HasLexCause}
 use Rattle.forec_lexer.proofs.Whole.{start, turn, full, at_end, at_stop, place_step, place_within, named}
-use Rattle.forec_lexer.proofs.text.lexed_text.Goals as goal
+use Rattle.forec_lexer.proofs.text.lexed_into.Goals as goal
 
 pub loop-at-init : goal.loop-at-init
 loop-at-init c =
-    let t : c.new-tokens.result.items ≡ [] = c.new-tokens.ensures.items in
-    let n : c.in_ok-names.names.labels ≡ [] = c.in_ok-names.ensures.empty in
-    record { within = omega arith; cuts = start c.args.text.now c.new-tokens.result.items c.in_ok-names.names.labels t n; few = rw t (omega arith); place = refl; same = c.in_ok-names.ensures.same }
+    let t : c.args.tokens.now.items ≡ [] = c.requires.no_tokens in
+    let n : c.args.names.now.labels ≡ [] = c.requires.no_names in
+    record { within = omega arith; cuts = start c.args.text.now c.args.tokens.now.items c.args.names.now.labels t n; few = rw t (omega arith); place = refl; same = c.requires.same }
 
 pub returns-in_default-clause-err : goal.returns-in_default-clause-err
 returns-in_default-clause-err c =
@@ -76,4 +76,4 @@ loop-at-preserved c =
 pub returns-clause-ok : goal.returns-clause-ok
 returns-clause-ok c =
     let i = c.loop-at.invariant in
-    rw c.into_labels.ensures (at_end c.args.text.now c.loop-at.tokens.items c.loop-at.names.labels c.loop-at.at i.cuts i.within (omega arith) i.few)
+    at_end c.args.text.now c.loop-at.tokens.items c.loop-at.names.labels c.loop-at.at i.cuts i.within (omega arith) i.few

@@ -1,7 +1,7 @@
 use Rattle.std.proofs.Common.{◌≡◌, ◌≤◌, ◌-◌, length}
 use Rattle.forec_tree.specs.LexedText.{Cuts, place_at}
 use Rattle.forec_lexer.specs.Shown.{IsSame}
-use Rattle.forec_lexer.proofs.text.lexed_text.Given as goal
+use Rattle.forec_lexer.proofs.text.lexed_into.Given as goal
 
 abbrev pub invariant-loop-at : goal.invariant-loop-at
 invariant-loop-at l = record {
