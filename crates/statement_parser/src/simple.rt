@@ -14,6 +14,7 @@ ghost use Rattle.statement_parser.specs.Views.{optional_term_in, statement_in, p
 use crate::meaning::{Act, Change, act_of, change_of, step_of, update_of};
 use crate::parts::{self, ForHead};
 use expr_parser::{Fault, Fixed, Tokens};
+use forec_base::Binary;
 use forec_tree::{Branch, Expr, Local, Name, Number, OpAt, Stmt, Target};
 use sqlite_items::Items;
 use std::alloc::Global;
@@ -58,11 +59,11 @@ fn passed(alloc: Global, tokens: &mut Tokens<'_>) -> Result<Items<Expr>, Fault>
     expr_parser::passed(alloc, tokens, EXPR_DEPTH)
 }
 
-#[tactic(auto, unfolding(crate::specs::Statements::update))]
-fn update(tokens: &mut Tokens<'_>) -> Result<OpAt, Fault>
-    ensures { Reads (λ (o : OpAt). o) (spec.update tokens.old) result tokens.new }
+/// Takes the next token as an operator, where it is one.
+fn operator(tokens: &mut Tokens<'_>, op: Option<Binary>) -> Result<OpAt, Fault>
+    ensures { Reads (λ (o : OpAt). o) (spec.op_by op tokens.old) result tokens.new }
 {
-    match update_of(tokens.kind()) {
+    match op {
         Some(op) => {
             let token = tokens.take()?;
             Ok(OpAt {
@@ -74,20 +75,20 @@ fn update(tokens: &mut Tokens<'_>) -> Result<OpAt, Fault>
     }
 }
 
+#[tactic(auto, unfolding(crate::specs::Statements::update))]
+fn update(tokens: &mut Tokens<'_>) -> Result<OpAt, Fault>
+    ensures { Reads (λ (o : OpAt). o) (spec.update tokens.old) result tokens.new }
+{
+    let op = update_of(tokens.kind());
+    operator(tokens, op)
+}
+
 #[tactic(auto, unfolding(crate::specs::Statements::step_mark))]
 fn step_mark(tokens: &mut Tokens<'_>) -> Result<OpAt, Fault>
     ensures { Reads (λ (o : OpAt). o) (spec.step_mark tokens.old) result tokens.new }
 {
-    match step_of(tokens.kind()) {
-        Some(op) => {
-            let token = tokens.take()?;
-            Ok(OpAt {
-                op,
-                place: token.place,
-            })
-        }
-        None => Err(tokens.refuse()),
-    }
+    let op = step_of(tokens.kind());
+    operator(tokens, op)
 }
 
 #[tactic(auto, unfolding(crate::specs::Statements::maybe_index))]
