@@ -2,20 +2,20 @@
 #![tactic(auto)]
 
 mod depths;
-mod draft;
+mod drafts;
 mod elements;
 mod expand;
-mod int_functions;
+mod functions;
+mod globals;
 mod marks;
 mod measure;
 mod pars;
 mod reach;
 mod shapes;
 mod tables;
-mod variables;
 
-pub use draft::{complete, draft};
-pub use int_functions::{int_functions, lowered_functions};
+pub use drafts::{complete, draft};
+pub use functions::{int_functions, lowered_functions};
+pub use globals::{variable_total, variables};
 pub use measure::{Draft, most, words_along};
 pub use tables::{arrays, table_words};
-pub use variables::{variable_total, variables};

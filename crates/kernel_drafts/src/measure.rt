@@ -7,7 +7,7 @@ ghost use Rattle.text_kernel.specs.declared.limits.Quantity.TheVariants as quant
 ghost use Rattle.kernel_drafts.specs.Measures.{plain_draft, CallsLow, IsConsistent, words_of_shape, depth_of_body, HasChains, HasWords};
 
 use crate::depths::statement_depth;
-use crate::int_functions::Functions;
+use crate::functions::Functions;
 use crate::reach::{body_calls, chains, greatest, numbers, thread_calls};
 use forec_base::OutOfMemory;
 use forec_kernel::{FunctionShape, Statement, ThreadShape, Variable};

@@ -4,7 +4,7 @@ use Rattle.std.proofs.lemmas.Iterator.Adapters.{YieldsList-from_vec}
 use Rattle.std.proofs.lemmas.Iterator.Consumers.{YieldsList-end}
 use Rattle.forec_kernel.specs.Plain.{stmt}
 use Rattle.kernel_drafts.specs.Drafts.{thread_body}
-use Rattle.kernel_drafts.proofs.draft.texts_of.Goals as goal
+use Rattle.kernel_drafts.proofs.drafts.texts_of.Goals as goal
 
 pub returns : goal.returns
 returns c =

@@ -6,7 +6,7 @@ use Rattle.loop_check.specs.Views.{indexed_text}
 use Rattle.body_lower.specs.declared.state.State.{State}
 use Rattle.text_kernel.specs.Lowering.{NextNumbers}
 use Rattle.kernel_drafts.proofs.Assembled.{translated}
-use Rattle.kernel_drafts.proofs.int_functions.translated.Goals as goal
+use Rattle.kernel_drafts.proofs.functions.translated.Goals as goal
 
 pub returns-clause-body : goal.returns-clause-body
 returns-clause-body c =

@@ -3,7 +3,7 @@ use Rattle.forec_tree.specs.Plain.{plain_item}
 use Rattle.loop_check.specs.Views.{indexed_text}
 use Rattle.text_kernel.specs.Kernels as kernels
 use Rattle.text_kernel.specs.Items.{functions_of}
-use Rattle.kernel_drafts.proofs.int_functions.int_functions.Given as goal
+use Rattle.kernel_drafts.proofs.functions.int_functions.Given as goal
 
 abbrev pub invariant-loop-item : goal.invariant-loop-item
 invariant-loop-item l =

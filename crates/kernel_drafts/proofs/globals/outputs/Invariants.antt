@@ -3,7 +3,7 @@ use Rattle.forec_tree.specs.Rules as rules
 use Rattle.loop_check.specs.Views.{indexed_text}
 use Rattle.text_kernel.specs.Kernels as kernels
 use Rattle.kernel_drafts.specs.Elements.{plain_elements}
-use Rattle.kernel_drafts.proofs.variables.outputs.Given as goal
+use Rattle.kernel_drafts.proofs.globals.outputs.Given as goal
 
 abbrev pub invariant-loop-e : goal.invariant-loop-e
 invariant-loop-e l =

@@ -1,7 +1,7 @@
 use Rattle.std.proofs.Common.{◌≡◌, ◌+◌, ◌-◌, ◌^◌, ◌≤◌, min, sum, map, drop}
 use Rattle.forec_tree.specs.Variables.{width}
 use Rattle.text_kernel.specs.Items.{globals_of}
-use Rattle.kernel_drafts.proofs.variables.variable_total.Given as goal
+use Rattle.kernel_drafts.proofs.globals.variable_total.Given as goal
 
 abbrev pub invariant-loop-global : goal.invariant-loop-global
 invariant-loop-global l =

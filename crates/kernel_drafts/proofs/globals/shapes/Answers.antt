@@ -4,7 +4,7 @@ use Rattle.text_kernel.specs.Kernels.{variable_shape}
 use Rattle.kernel_drafts.specs.Elements.{plain_element, plain_elements}
 use Rattle.kernel_drafts.proofs.Assembled.{appended_more}
 use Rattle.kernel_drafts.proofs.ElementLemmas.{elements_next}
-use Rattle.kernel_drafts.proofs.variables.shapes.Goals as goal
+use Rattle.kernel_drafts.proofs.globals.shapes.Goals as goal
 
 pub loop-e-preserved : goal.loop-e-preserved
 loop-e-preserved c =

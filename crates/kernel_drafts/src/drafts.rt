@@ -15,11 +15,11 @@ ghost use Rattle.text_kernel.specs.Kernels as kernels;
 
 use crate::elements::{elements, labels};
 use crate::expand::{Bodies, expand};
-use crate::int_functions::{Functions, int_functions, lowered_functions};
+use crate::functions::{Functions, int_functions, lowered_functions};
+use crate::globals::{inputs, outputs, shapes, variables};
 use crate::measure::Draft;
 use crate::shapes::threads_of;
 use crate::tables::tables;
-use crate::variables::{inputs, outputs, shapes, variables};
 use body_lower::{Source, count};
 use forec_base::{Labels, OutOfMemory};
 use forec_kernel::{KernelParts, Shape, Statement};

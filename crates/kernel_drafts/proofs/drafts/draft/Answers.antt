@@ -14,7 +14,7 @@ use Rattle.text_kernel.proofs.VariableItems.{variables_are}
 use Rattle.kernel_drafts.specs.Elements.{plain_element, plain_elements}
 use Rattle.kernel_drafts.proofs.DraftLemmas.{bodies_are}
 use Rattle.kernel_drafts.proofs.Drafting.{draft_threads, draft_texts, draft_variables, draft_shapes, draft_bodies, as_many, as_many_functions}
-use Rattle.kernel_drafts.proofs.draft.draft.Goals as goal
+use Rattle.kernel_drafts.proofs.drafts.draft.Goals as goal
 
 pub returns : goal.returns
 returns c =

@@ -11,7 +11,7 @@ use Rattle.text_kernel.proofs.VariableItems.{variables_are}
 use Rattle.kernel_drafts.specs.Elements.{plain_elements}
 use Rattle.kernel_drafts.specs.Reach.{table_items}
 use Rattle.kernel_drafts.proofs.Drafting.{by_parts, draft_tables, draft_inputs, draft_outputs, draft_names}
-use Rattle.kernel_drafts.proofs.draft.complete.Goals as goal
+use Rattle.kernel_drafts.proofs.drafts.complete.Goals as goal
 
 pub returns : goal.returns
 returns c =

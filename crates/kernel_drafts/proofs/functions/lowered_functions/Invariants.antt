@@ -3,7 +3,7 @@ use Rattle.forec_kernel.specs.Plain as kernel
 use Rattle.loop_check.specs.Views.{indexed_text}
 use Rattle.kernel_drafts.specs.Drafts.{function_shape, function_text}
 use Rattle.text_kernel.specs.Items.{functions_of}
-use Rattle.kernel_drafts.proofs.int_functions.lowered_functions.Given as goal
+use Rattle.kernel_drafts.proofs.functions.lowered_functions.Given as goal
 
 abbrev pub invariant-loop-function : goal.invariant-loop-function
 invariant-loop-function l =

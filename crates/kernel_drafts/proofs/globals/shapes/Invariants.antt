@@ -2,7 +2,7 @@ use Rattle.std.proofs.Common.{◌≡◌, ◌++◌, map, drop}
 use Rattle.loop_check.specs.Views.{indexed_text}
 use Rattle.text_kernel.specs.Kernels as kernels
 use Rattle.kernel_drafts.specs.Elements.{plain_elements}
-use Rattle.kernel_drafts.proofs.variables.shapes.Given as goal
+use Rattle.kernel_drafts.proofs.globals.shapes.Given as goal
 
 abbrev pub invariant-loop-e : goal.invariant-loop-e
 invariant-loop-e l =

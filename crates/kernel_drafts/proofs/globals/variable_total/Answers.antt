@@ -4,7 +4,7 @@ use Rattle.forec_tree.specs.Plain.{plain_global}
 use Rattle.forec_tree.specs.Variables.{width}
 use Rattle.text_kernel.specs.Items.{globals_of}
 use Rattle.kernel_drafts.proofs.Assembled.{globals_next}
-use Rattle.kernel_drafts.proofs.variables.variable_total.Goals as goal
+use Rattle.kernel_drafts.proofs.globals.variable_total.Goals as goal
 
 pub loop-global-preserved : goal.loop-global-preserved
 loop-global-preserved c =
