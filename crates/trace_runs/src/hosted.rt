@@ -94,18 +94,24 @@ impl<'c, P: Port<ForecWork> + Drop> Ticker for Alone<'c, P> {
     }
 }
 
-impl<'c> Ticker for OneCore<'c> {
+/// One core that has all threads, with nobody beside it.
+#[derive(Drop)]
+pub struct OnOneCore<'c> {
+    pub core: OneCore<'c>,
+}
+
+impl<'c> Ticker for OnOneCore<'c> {
     ghost use Rattle.std.specs.Prelude.{◌≡◌, true};
     ghost use Rattle.one_core.specs.Single.{single_code, single_is_live};
     ghost use Rattle.trace_runs.specs.Hosting.{OneFollows};
 
-    ghost shape = { λ o. (single_code o).shape };
+    ghost shape = { λ s. (single_code s.core).shape };
 
-    ghost follows = { λ o. OneFollows o };
+    ghost follows = { λ s. OneFollows s.core };
 
-    ghost live = { λ o. single_is_live o ≡ true };
+    ghost live = { λ s. single_is_live s.core ≡ true };
 
-    ghost ready = { λ o. true };
+    ghost ready = { λ s. true };
 
     fn tick<O: Serve, G: Gate, R: Wait>(
         &mut self,
@@ -114,6 +120,6 @@ impl<'c> Ticker for OneCore<'c> {
         budget: u64,
         outputs: &mut [i32],
     ) -> Result<Outcome, OutOfMemory> {
-        Ok(OneCore::tick(self, row, budget, company.gate, outputs))
+        Ok(self.core.tick(row, budget, company.gate, outputs))
     }
 }

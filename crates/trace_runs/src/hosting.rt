@@ -14,6 +14,7 @@ ghost use Rattle.trace_ticks.specs.Prints.{PrintsReport};
 ghost use Rattle.trace_ticks.specs.Workload.{ticked_report};
 
 use crate::beside::lead_hosts;
+use crate::hosted::OnOneCore;
 use board_hosts::{Hosts, board_of, hosts_of};
 use code_gen::generate;
 use core_alloc::Placement;
@@ -94,7 +95,8 @@ fn lead_alone<J: Lead, G: Gate, R: Wait>(
     ensures ok { IfOk result (DidForEach (plain_code code.now) (J.did job.old job.new)) }
     ensures err { OnErr result (job.new ≡ job.old) }
 {
-    let mut one = OneCore::load(setting.alloc, code, placement)?;
+    let core = OneCore::load(setting.alloc, code, placement)?;
+    let mut one = OnOneCore { core };
     let mut company = Company {
         rt: setting.rt,
         gate: setting.gate,
