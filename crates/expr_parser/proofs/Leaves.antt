@@ -165,12 +165,36 @@ pub data Enclosing {A B : Type 0} (limit : ℕ) (g : ℕ → ℕ) (l r : Fixed) 
 abbrev pub Enclosed : {A B : Type 0} → Fixed → Fixed → (Token → A → B) → Lang A → Lang B
 Enclosed l r f P = EnclosedTo (λ v. v) l r f P
 
+-- a value, and then the level outside
+scoped_pair : {B : Type 0} (u : ℕ) (x y z : B) (i k j : Input) → ok_of x i ≡ ok_of y k → ok_of y (input k.rest u) ≡ ok_of z j → (x ≡ z) × (i.rest ≡ j.rest) × (u ≡ j.level)
+scoped_pair u x y z i k j a b =
+    let p = ok_pair x y i k a in
+    let q = ok_pair y z (input k.rest u) j b in
+    (p.0 ∙ q.0, ap (λ (m : Input). m.rest) p.1 ∙ ap (λ (m : Input). m.rest) q.1, ap (λ (m : Input). m.level) q.1)
+
 module _ {limit : ℕ} {A B : Type 0} {p : Parser A} {P P' : Lang A} (g : ℕ → ℕ) (low : (v : ℕ) → v ≤ limit → g v ≤ limit) (l r : Fixed) (f : Token → A → B) where
   pub enclosing_to : Exact limit p P P' → Exact limit (reading.enclosed limit l r f p) (EnclosedTo g l r f P) (Enclosing limit g l r f P')
   enclosing_to a = record { sound = so; complete = λ v w y ls rest q. of q rest }
     where
       finish : Token → A → Parser B
       finish t x = λ k. and_then (close r k) (λ _ m. ok_of (f t x) m)
+
+      -- what stands between an opening token and a closing one
+      between_read : (i m n o j : Input) (left right : Token) (x : A) → i.level ≤ limit → Raised limit left i m → Is l left → Read limit P x m n → Took right n o → Is r right
+          → o.rest ≡ j.rest → i.level ≡ j.level → Read limit (EnclosedTo g l r f P) (f left x) i j
+      between_read i m n o j left right x small e hl q t hr after level =
+          let back : n.rest ≡ right ∷ j.rest = t.front ∙ ap (λ u. right ∷ u) after in
+          let R : ℕ → Type 0 = λ v. P v x n.level q.spelt (kind_ahead n.rest) in
+          let S : Option TokenKind → Type 0 = λ k. P (i.level + 1) x n.level q.spelt k in
+          let inner : P (i.level + 1) x n.level q.spelt (Some right.kind) = subst S (ap kind_ahead back) (subst R e.level q.spells) in
+          let T : ℕ → Type 0 = λ v. EnclosedTo g l r f P i.level (f left x) v (at left (i.level + 1) ∷ (q.spelt ++ (at right (g i.level) ∷ []))) (kind_ahead j.rest) in
+          record {
+            spelt = at left (i.level + 1) ∷ (q.spelt ++ (at right (g i.level) ∷ []));
+            front = e.front ∙ ap (λ u. left ∷ u) (q.front ∙ ap (λ u. tokens q.spelt ++ u) back ∙ sym (tokens_append q.spelt (at right (g i.level) ∷ []) j.rest));
+            spells = subst T level (between right hl inner hr);
+            within = (e.small, within_join limit q.spelt (at right (g i.level) ∷ []) q.within (low i.level small, tt));
+            small = omega (arith, level);
+          }
 
       so : (i j : Input) (y : B) → i.level ≤ limit → reading.enclosed limit l r f p i ≡ Ok (y, j) → Read limit (EnclosedTo g l r f P) y i j
       so i j y small h =
@@ -181,23 +205,9 @@ module _ {limit : ℕ} {A B : Type 0} {p : Parser A} {P P' : Lang A} (g : ℕ �
           let e = entered limit l i b.value b.state b.was in
           let m = a.sound b.state c.state c.value (omega (arith, e.raised.level, e.raised.small)) c.was in
           let z1 = closed r c.state d.value d.state d.was in
-          let q = ok_pair (f b.value c.value) o.value d.state o.state d.goes in
-          let z = ok_pair o.value y (input o.state.rest i.level) j o.goes in
-          let R : ℕ → Type 0 = λ n. P n c.value c.state.level m.spelt (kind_ahead c.state.rest) in
-          let S : Option TokenKind → Type 0 = λ k. P (i.level + 1) c.value c.state.level m.spelt k in
-          let inner : P (i.level + 1) c.value c.state.level m.spelt (Some d.value.kind) = subst S {y = Some d.value.kind} (ap kind_ahead {y = d.value ∷ d.state.rest} z1.took.front) (subst R e.raised.level m.spells) in
-          let last : d.state.rest ≡ j.rest = ap (λ (u : Input). u.rest) q.1 ∙ ap (λ (u : Input). u.rest) z.1 in
-          let T : ℕ → Type 0 = λ n. EnclosedTo g l r f P i.level (f b.value c.value) n (at b.value (i.level + 1) ∷ (m.spelt ++ (at d.value (g i.level) ∷ []))) (kind_ahead j.rest) in
-          let U : B → Type 0 = λ u. EnclosedTo g l r f P i.level u j.level (at b.value (i.level + 1) ∷ (m.spelt ++ (at d.value (g i.level) ∷ []))) (kind_ahead j.rest) in
-          let level : i.level ≡ j.level = ap (λ (u : Input). u.level) z.1 in
-          record {
-            spelt = at b.value (i.level + 1) ∷ (m.spelt ++ (at d.value (g i.level) ∷ []));
-            front = e.raised.front ∙ ap (λ u. b.value ∷ u)
-                (m.front ∙ ap (λ u. tokens m.spelt ++ u) (z1.took.front ∙ ap (λ u. d.value ∷ u) last) ∙ sym (tokens_append m.spelt (at d.value (g i.level) ∷ []) j.rest));
-            spells = subst U (q.0 ∙ z.0) (subst T level (between d.value e.is inner z1.is));
-            within = (e.raised.small, within_join limit m.spelt (at d.value (g i.level) ∷ []) m.within (low i.level small, tt));
-            small = omega (arith, level);
-          }
+          let q = scoped_pair i.level (f b.value c.value) o.value y d.state o.state j d.goes o.goes in
+          let R : B → Type 0 = λ u. Read limit (EnclosedTo g l r f P) u i j in
+          subst R q.0 (between_read i b.state c.state d.state j b.value d.value c.value small e.raised e.is m z1.took z1.is q.1 q.2)
 
       closes_by : {v w : ℕ} (left right : Token) {x : A} {ls : List Spelt} {rest : List Token} {o : Outcome A} → Is r right → Follows limit x w ls (right ∷ rest) o
           → Follows limit (f left x) v (at left (v + 1) ∷ (ls ++ (at right (g v) ∷ []))) rest (and_then (and_then o (finish left)) (λ x k. Ok (x, input k.rest v)))
