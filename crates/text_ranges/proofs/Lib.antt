@@ -1,6 +1,5 @@
 pub mod Tokens
 pub mod Trees
-pub mod Kernels
 pub mod Spelled
 pub mod Lowered
 pub mod Bodies

@@ -21,13 +21,13 @@ use Rattle.text_kernel.specs.declared.names.Stands.{Stands}
 use Rattle.text_kernel.specs.declared.names.Stands.TheVariants as st
 use Rattle.text_kernel.specs.Bindings.{number_of, find_slot, slots_of, with_local_slots, params_at, slot_stands, constant_stands, variable_stands, item_stands, first_value, is_table, number_among, variable_number}
 use Rattle.text_kernel.specs.Lowering.{read_as, element_as, stands, lower_term, lower_terms, sequence, ends_with, NextNumbers, Made, Lowered, Listed, Started, as_one, lowered, from_slot, place_if, operated_expr, assign_to, assign_at, bound_of, or_inferred, after_start, then_step, par_of, par_after, array_values, lower_local, lower_locals, scope_after, scope_after_perhaps, set_params, optional_test, lower_target, Inlined, lower_statement, lower_list, lower_perhaps, lower_branches, inlined_body, inlined_step, nothing_inlined, inlined}
+use Rattle.value_ranges.specs.Properties.{Property, DividesAt, ExprHolds, ExprsHolds, BranchesHolds, StmtHolds, StmtsHolds}
 use Rattle.value_ranges.proofs.Lists.{all_append}
-use Rattle.text_ranges.proofs.Trees.{Property, TermHolds, TermsHolds, OptionHolds, OpHolds, DeclaredHolds, StatementHolds, StatementsHolds, PerhapsHolds, LaunchesHolds, NumbersHold, ItemHolds, TextHolds}
-use Rattle.text_ranges.proofs.Kernels.{DividesAt, ExprHolds, ExprsHolds, BranchesHolds, StmtHolds, StmtsHolds}
+use Rattle.text_ranges.proofs.Trees.{HasSmall, TermHolds, TermsHolds, OptionHolds, OpHolds, DeclaredHolds, StatementHolds, StatementsHolds, PerhapsHolds, LaunchesHolds, NumbersHold, ItemHolds, TextHolds}
 
-module _ (has : Property) where
+module _ (has : Property) (ok : HasSmall has) where
   zero_holds : has.OfNumber (pos 0)
-  zero_holds = has.small 0 (omega arith)
+  zero_holds = ok.small 0 (omega arith)
 
   -- ---- what names stand for
 
@@ -215,7 +215,7 @@ module _ (has : Property) where
         StmtsHolds has (array_values text s slot size k es place)
     array_holds s slot size k no_terms place h few p = tt
     array_holds s slot size k (more_terms e rest) place h few p =
-        ((has.small k (omega arith), term_holds s e h.0, p), array_holds s slot size (suc k) rest place h.1 (omega arith) p)
+        ((ok.small k (omega arith), term_holds s e h.0, p), array_holds s slot size (suc k) rest place h.1 (omega arith) p)
 
     local_holds : (s : List Slot) (slot : ℕ) (name : Name) (size : Option Number) (es : Terms) → TermsHolds has es → count_terms es ≤ 200001 → has.OfPlace name.place →
         StmtHolds has (lower_local text s slot (record { name = name; length = size; values = es }))
@@ -235,7 +235,7 @@ module _ (has : Property) where
     params_holds s slot (more_terms e rest) h = (term_holds s e h.0, params_holds s (suc slot) rest h.1)
 
     test_holds : (s : List Slot) (t : Option Term) → OptionHolds has t → ExprHolds has (optional_test text s t)
-    test_holds s None h = has.small 1 (omega arith)
+    test_holds s None h = ok.small 1 (omega arith)
     test_holds s (Some e) h = term_holds s e h
 
     target_holds : (s : List Slot) (t : PlainTarget) (op : Option OpAt) (value : Expr) → OptionHolds has t.index → has.OfPlace t.name.place → ExprHolds has value → OpHolds has op →

@@ -16,11 +16,12 @@ use Rattle.forec_tree.specs.SpelledStatements.{Separated, last_part, next_part, 
 use Rattle.forec_tree.specs.SpelledStatements as says
 use Rattle.forec_tree.specs.SpelledPrograms.{Signed, positive, negative, Named, named, Scalar, unset, set, Table, constant, table, SharedVariable, Introduces, constants, inputs, outputs, globals, shared_globals, function, Programs, no_items, more_items, IsSpelled}
 use Rattle.forec_tree.specs.SpelledPrograms as spelled
+use Rattle.value_ranges.specs.Properties.{Property}
 use Rattle.value_ranges.proofs.Lists.{all_append}
 use Rattle.text_ranges.proofs.Tokens.{SpeltHolds, behind, front, back}
-use Rattle.text_ranges.proofs.Trees.{Property, TermHolds, TermsHolds, OptionHolds, DeclaredHolds, StatementHolds, StatementsHolds, PerhapsHolds, LaunchesHolds, NumbersHold, ItemHolds, TextHolds}
+use Rattle.text_ranges.proofs.Trees.{HasSmall, TermHolds, TermsHolds, OptionHolds, DeclaredHolds, StatementHolds, StatementsHolds, PerhapsHolds, LaunchesHolds, NumbersHold, ItemHolds, TextHolds}
 
-module _ (has : Property) where
+module _ (has : Property) (ok : HasSmall has) where
   -- ---- expressions
 
   joined_holds : (op : Operator) (place : Place) (left right : Term) → TermHolds has left → TermHolds has right → has.OfPlace place → TermHolds has (operator_term op place left right)
@@ -87,8 +88,8 @@ module _ (has : Property) where
       (targets_holds a (front has ts (at t v ∷ ls) h), whole_holds e (behind has (back has ts (at t v ∷ ls) h)), tt)
   simple_holds (updates {v = v} t {ts = ts} {ls = ls} op a m e) h =
       let late = back has ts (at t v ∷ ls) h in (targets_holds a (front has ts (at t v ∷ ls) h), whole_holds e (behind has late), late.each.0.place)
-  simple_holds (steps_after {v = v} t {ts = ts} op a m) h = (targets_holds a (front has ts (at t v ∷ []) h), has.small 1 (omega arith), (back has ts (at t v ∷ []) h).each.0.place)
-  simple_holds (steps_ahead op m a) h = (targets_holds a (behind has h), has.small 1 (omega arith), h.each.0.place)
+  simple_holds (steps_after {v = v} t {ts = ts} op a m) h = (targets_holds a (front has ts (at t v ∷ []) h), ok.small 1 (omega arith), (back has ts (at t v ∷ []) h).each.0.place)
+  simple_holds (steps_ahead op m a) h = (targets_holds a (behind has h), ok.small 1 (omega arith), h.each.0.place)
   simple_holds (invokes id n p) h = passes_holds p (behind has h)
 
   declares_holds : {d : Declared} {v : ℕ} {ls : List Spelt} → Declares d v ls → SpeltHolds has ls → DeclaredHolds has d
@@ -185,7 +186,7 @@ module _ (has : Property) where
 
   signed_holds : {n : Number} {v : ℕ} {ls : List Spelt} → Signed n v ls → SpeltHolds has ls → has.OfNumber n.value
   signed_holds (positive value is) h = h.each.0.number value is
-  signed_holds (negative value m is) h = has.minus value (h.each.1.0.number value is)
+  signed_holds (negative value m is) h = ok.minus value (h.each.1.0.number value is)
 
   abbrev GlobalHolds : PlainGlobal → Type 0
   GlobalHolds g = NumbersHold has g.values

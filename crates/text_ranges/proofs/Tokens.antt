@@ -10,7 +10,7 @@ use Rattle.forec_tree.specs.LexedText.{token_kind_of, token_at, Cuts, begins, sk
 use Rattle.forec_tree.specs.Spelling.{Spelt, tokens}
 use Rattle.value_ranges.proofs.Numbers.{signed_fits}
 use Rattle.value_ranges.proofs.Lists.{all_append}
-use Rattle.text_ranges.proofs.Trees.{Property}
+use Rattle.value_ranges.specs.Properties.{Property}
 
 -- if the token is a number, it fits
 abbrev pub TokenFits : Token → Type 0

@@ -2,19 +2,17 @@
 -- (The numbers of lengths and bounds stand in no term of the kernel.)
 use Rattle.std.proofs.Common.{ℕ, ◌≤◌, ℤ, pos, Option, Some, None, List}
 use Rattle.std.specs.List.{AllByRecursion}
-use Rattle.forec_base.specs.declared.Place.{Place}
 use Rattle.forec_base.specs.declared.operators.Unary.TheVariants as un
 use Rattle.forec_base.specs.Numbers.{unary_of}
 use Rattle.forec_tree.specs.declared.tree.Number.{Number}
 use Rattle.forec_tree.specs.declared.tree.OpAt.{OpAt}
 use Rattle.forec_tree.specs.Terms.{Term, Num, Read, Element, Un, Bin, And, Or, Choose, Call, Terms, no_terms, more_terms, count_terms, Declared, Statement, Declare, Nothing, Group, Assign, Invoke, If, While, For, Pause, Par, Abort, Return, Statements, no_statements, more_statements, Perhaps, absent, present, Branches, no_branches, by_call, by_group, PlainItem, IsGlobal, IsFunction, Text}
+use Rattle.value_ranges.specs.Properties.{Property}
 
--- what each number and each such place has; each number up to 200001 has it, and each that has it still has it with a minus
-pub record Property : Type 1 where
-  pub OfNumber : ℤ → Type 0
-  pub OfPlace : Place → Type 0
-  pub small : (k : ℕ) → k ≤ 200001 → OfNumber (pos k)
-  pub minus : (n : ℤ) → OfNumber n → OfNumber (unary_of un.Minus n)
+-- each number up to 200001 has the property, and each that has it still has it with a minus
+pub record HasSmall (has : Property) : Type 0 where
+  pub small : (k : ℕ) → k ≤ 200001 → has.OfNumber (pos k)
+  pub minus : (n : ℤ) → has.OfNumber n → has.OfNumber (unary_of un.Minus n)
 
 module _ (has : Property) where
   abbrev mutual

@@ -8,18 +8,17 @@ use Rattle.forec_tree.specs.Terms.{PlainGlobal, IsGlobal, IsFunction, Text}
 use Rattle.forec_tree.specs.Variables.{PlainVariable, elements, elements_from, variables_of, variables}
 use Rattle.text_kernel.specs.Bindings.{number_of, first_value, nth_value}
 use Rattle.text_kernel.specs.Kernels.{padded, initial_value, variable_shape, table_of, tables_of, kernel_of}
-use Rattle.value_ranges.specs.Words.{AreWords, StmtWords, KernelWords}
+use Rattle.value_ranges.specs.Words.{AreWords, words, KernelWords}
 use Rattle.value_ranges.proofs.Numbers.{zero_fits}
 use Rattle.value_ranges.proofs.Lists.{all_append}
 use Rattle.value_ranges.proofs.Ticks.{values_fit}
 use Rattle.text_ranges.specs.Laws.{SpelledProgramsHaveWords, SpelledRunsFit}
 use Rattle.text_ranges.proofs.Tokens.{TokenFits, cuts_fit, TokenHolds, lexed_holds}
 use Rattle.text_ranges.proofs.Trees.{TextHolds}
-use Rattle.text_ranges.proofs.Kernels.{StmtHolds}
 use Rattle.text_ranges.proofs.Spelled.{spelled_holds}
 use Rattle.text_ranges.proofs.Lowered.{first_holds}
 use Rattle.text_ranges.proofs.Bodies.{all_into, bodies_hold}
-use Rattle.text_ranges.proofs.Words.{words, stmt_words}
+use Rattle.text_ranges.proofs.Words.{small_words}
 
 abbrev NumbersFit : List Number → Type 0
 NumbersFit = AllByRecursion (λ (n : Number). FitsSigned w32 n.value)
@@ -35,7 +34,7 @@ initial_fits : (v : PlainVariable) → NumbersFit v.global.values → FitsSigned
 initial_fits v h = pick v.index
   where
     pick : (i : Option ℕ) → FitsSigned w32 (elim i [ None ↦ first_value v.global.values | Some j ↦ nth_value j v.global.values ])
-    pick None = first_holds words v.global.values h
+    pick None = first_holds words small_words v.global.values h
     pick (Some j) = nth_fits j v.global.values h
 
 abbrev VariablesWords : List PlainVariable → Type 0
@@ -89,10 +88,10 @@ module _ (text : Text) (names : List (List ℕ)) where
   has_words : TextHolds words text → KernelWords (kernel_of text names)
   unfolding kernel_of
   has_words all =
-      let k = bodies_hold words text names all in
+      let k = bodies_hold words small_words text names all in
       record {
-        threads = all_into (StmtHolds words) StmtWords stmt_words (kernel_of text names).threads k.threads;
-        functions = all_into (StmtHolds words) StmtWords stmt_words (kernel_of text names).functions k.functions;
+        threads = k.threads;
+        functions = k.functions;
         tables = tables_fit text all;
         starts = starts_fit (variables text) (variables_words text all);
       }
@@ -100,7 +99,7 @@ module _ (text : Text) (names : List (List ℕ)) where
 pub spelled_programs_have_words : SpelledProgramsHaveWords
 spelled_programs_have_words bytes tokens names limit program lexed spelled =
     has_words program names
-    (spelled_holds words limit program tokens spelled
+    (spelled_holds words small_words limit program tokens spelled
     (lexed_holds words bytes tokens names spelled.spelt lexed spelled.are
     (all_into TokenFits (TokenHolds words) (λ t fits. record { number = fits; place = tt }) tokens (cuts_fit lexed.lexes.cuts))))
 

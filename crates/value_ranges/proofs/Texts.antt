@@ -7,7 +7,7 @@ use Rattle.value_ranges.specs.Words.{AreWords, ExprWords, StmtWords, StmtsWords}
 use Rattle.value_ranges.proofs.Values.{CopiesFit, copy_fits}
 
 abbrev pub LoopFits : Loop → Type 0
-LoopFits loop = ExprWords loop.test × StmtWords loop.body
+LoopFits loop = ExprWords loop.test × StmtWords loop.body × Unit {0}
 
 abbrev pub AfterFits : After → Type 0
 AfterFits (Go_on list) = StmtsWords list

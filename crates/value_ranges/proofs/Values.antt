@@ -102,16 +102,16 @@ module _ (s : Setting) (fits : SettingFits s) where
     val_fits e h (Num n) w = w
     val_fits e h (Local slot) w = word_fits e.words slot h.words
     val_fits e h (LocalAt slot n i place) w =
-        then_fits (val s e i) (λ k. at_index (index_in n k) (λ j. word e.words (slot + j)) place) (val_fits e h i w)
+        then_fits (val s e i) (λ k. at_index (index_in n k) (λ j. word e.words (slot + j)) place) (val_fits e h i w.0)
         (λ k g. at_fits (index_in n k) (λ j. word e.words (slot + j)) place (λ j. word_fits e.words (slot + j) h.words))
     val_fits e h (Var v) w = copy_fits e.uses e.copies v h.copies
     val_fits e h (SharedAt v n i place) w =
-        then_fits (val s e i) (λ k. at_index (index_in n k) (λ j. (copy_of e.uses e.copies (v + j)).value) place) (val_fits e h i w)
+        then_fits (val s e i) (λ k. at_index (index_in n k) (λ j. (copy_of e.uses e.copies (v + j)).value) place) (val_fits e h i w.0)
         (λ k g. at_fits (index_in n k) (λ j. (copy_of e.uses e.copies (v + j)).value) place
         (λ j. copy_fits e.uses e.copies (v + j) h.copies))
     val_fits e h (TableAt t i place) w =
         let table = get_or s.tables t [] in
-        then_fits (val s e i) (λ k. at_index (index_in (length table) k) (λ j. word table j) place) (val_fits e h i w)
+        then_fits (val s e i) (λ k. at_index (index_in (length table) k) (λ j. word table j) place) (val_fits e h i w.0)
         (λ k g. at_fits (index_in (length table) k) (λ j. word table j) place
         (λ j. word_fits table j (all_get AreWords s.tables t [] fits.tables tt)))
     val_fits e h (Un op a) w =

@@ -1,5 +1,5 @@
 -- Terms of a kernel in which each number has a property, and each place at which a trap can be has one.
-use Rattle.std.specs.Prelude.{IsTrue, Option, List, [], ◌∷◌}
+use Rattle.std.specs.Prelude.{IsTrue, Option, ℤ, List, [], ◌∷◌}
 use Rattle.std.specs.List.{AllByRecursion}
 use Rattle.forec_base.specs.declared.Place.{Place}
 use Rattle.forec_base.specs.declared.operators.Binary.{Binary}
@@ -7,12 +7,18 @@ use Rattle.forec_kernel.specs.Terms.{Expr, Num, Local, LocalAt, Var, SharedAt, T
 use Rattle.forec_kernel.specs.Shapes.{PlainKernel}
 use Rattle.forec_kernel.specs.Values.{place_or}
 use Rattle.forec_kernel.specs.WellFormed.{can_divide}
-use Rattle.text_ranges.proofs.Trees.{Property}
+
+-- a property of numbers, and one of places
+pub record Property : Type 1 where
+  pub OfNumber : ℤ → Type 0
+  pub OfPlace : Place → Type 0
 
 module _ (has : Property) where
   -- where an operator can divide, it has such a place
   abbrev pub DividesAt : Binary → Option Place → Type 0
   DividesAt op place = IsTrue (can_divide op) → has.OfPlace (place_or place)
+
+  -- ---- terms
 
   abbrev mutual
     pub ExprHolds : Expr → Type 0
@@ -56,7 +62,9 @@ module _ (has : Property) where
     StmtsHolds no_stmts = Unit {0}
     StmtsHolds (more_stmts s rest) = StmtHolds s × StmtsHolds rest
 
+  -- ---- a kernel
+
   -- each number and each such place in a body
-  pub record KernelHolds (k : PlainKernel) : Type 0 where
+  pub record BodiesHold (k : PlainKernel) : Type 0 where
     pub threads : AllByRecursion StmtHolds k.threads
     pub functions : AllByRecursion StmtHolds k.functions
