@@ -14,7 +14,8 @@ use Rattle.forec_kernel.specs.Texts.{Loop, After, Go_on, Again, Status, Running,
 use Rattle.forec_kernel.specs.Combining.{Share, Joint, fold_calls, variable_calls, combine_of, variable_of, part_of, joint_calls, calls_from, calls_at, count_threads, calls_in_order, Cost, Costs, Fails, more_cost, cost_of, join_cost}
 use Rattle.forec_kernel.specs.Steps.{Path, Owner, evaluated, Move, Finished, Halts, Moves, Traps, more_move, move_with, assigned, assigned_at, shared_at, turned_loop, entered_abort, Arguments, Ready, Refused, one_more_list, arguments_then, arguments, started, forked, statement_move, loop_move, combined, joined, move_before, move_watched, move_last, thread_after, child_place, path_below, text_move, child_move, Woken, Wakes, Stays, more_woken, woken_in, woken_with, refilled, watched_on, text_if, status_of, woken, woken_children}
 use Rattle.value_ranges.proofs.Lists.{all_get, all_append}
-use Rattle.log_ranges.specs.Places.{IsPlace, ExprPlaces, BranchesPlaces, StmtPlaces, StmtsPlaces, KernelPlaces}
+use Rattle.log_ranges.specs.Places.{IsPlace, KernelPlaces}
+use Rattle.log_ranges.proofs.Places.{ExprPlaces, BranchesPlaces, StmtPlaces, StmtsPlaces}
 use Rattle.log_ranges.proofs.Values.{ValuePlaces, ValuesPlaces, more_places, CallsPlaces, val_places, vals_places, kernel_places}
 
 -- ---- running texts

@@ -12,7 +12,8 @@ use Rattle.forec_kernel.specs.Shapes.{PlainKernel}
 use Rattle.forec_kernel.specs.Values.{word, copy_of, index_in, Value, Gives, Raises, more_units, value_then, Values, AllGive, OneRaises, one_more, first_then, values_then, Setting, setting, Sight, place_or, divided, at_index, val, vals, Flow, Goes, Returns, Breaks, more_flow, flow_with, flow_then, words_alone, stored_at, stored_flow, turns, flow, flows, flow_value, fresh_words, function_words, call_within}
 use Rattle.value_ranges.proofs.Lists.{all_get}
 use Rattle.value_ranges.specs.Properties.{DividesAt}
-use Rattle.log_ranges.specs.Places.{IsPlace, places, ExprPlaces, ExprsPlaces, StmtPlaces, StmtsPlaces, KernelPlaces}
+use Rattle.log_ranges.specs.Places.{IsPlace, places, KernelPlaces}
+use Rattle.log_ranges.proofs.Places.{ExprPlaces, ExprsPlaces, StmtPlaces, StmtsPlaces}
 
 -- ---- results
 

@@ -13,7 +13,8 @@ use Rattle.forec_kernel.specs.Values.{Value, Gives, Raises, Values, AllGive, One
 use Rattle.forec_kernel.specs.Texts.{Loop, After, Status, RunningText, Done, Run, Then, Turning, Resting, Fork, Held, Watch, Last, Threads, no_threads, child, child_of, text_of, some_running, all_over, first_trap, ended_are_gone, uses_of, words_of, params_of, body_of}
 use Rattle.forec_kernel.specs.Combining.{Cost, Costs, Fails, join_cost}
 use Rattle.forec_kernel.specs.Steps.{Path, Owner, evaluated, Move, Finished, Halts, Moves, Traps, more_move, move_with, assigned, assigned_at, shared_at, turned_loop, entered_abort, Arguments, Ready, Refused, one_more_list, arguments_then, arguments, started, forked, statement_move, loop_move, combined, joined, move_before, move_watched, move_last, thread_after, child_place, path_below, text_move, child_move}
-use Rattle.value_ranges.specs.Words.{AreWords, ExprWords, BranchesWords, StmtWords, KernelWords}
+use Rattle.value_ranges.specs.Words.{AreWords, KernelWords}
+use Rattle.value_ranges.proofs.Words.{ExprWords, BranchesWords, StmtWords}
 use Rattle.value_ranges.proofs.Lists.{all_get, all_set, all_take}
 use Rattle.value_ranges.proofs.Values.{CopiesFit, cleared_fits, fresh_fits, ValueFits, ValuesFitAll, SightFits, SettingFits, val_fits, vals_fits, kernel_fits}
 use Rattle.value_ranges.proofs.Texts.{LoopFits, AfterFits, TextFits, ThreadsFit, text_fits, texts_fit, after_fits, handed_fits, put_fits, gone_fit}

@@ -3,7 +3,8 @@ use Rattle.std.proofs.Common.{ℕ, ◌==◌, Bool, true, false, cond, List, [], 
 use Rattle.forec_kernel.specs.declared.shape.VarCopy.{VarCopy}
 use Rattle.forec_kernel.specs.Terms.{Stmt, Nop, Set, SetAt, PutAt, Clear, Seq, If, While, Pause, Par, Enter, Return, Stmts, no_stmts, more_stmts}
 use Rattle.forec_kernel.specs.Texts.{Loop, After, Go_on, Again, RunningText, Done, Run, Then, Turning, Resting, Fork, Held, Watch, Last, Threads, no_threads, child, text_of, texts_of, then_list, after_text, ended_are_gone, handed_down, put_copy}
-use Rattle.value_ranges.specs.Words.{AreWords, ExprWords, StmtWords, StmtsWords}
+use Rattle.value_ranges.specs.Words.{AreWords}
+use Rattle.value_ranges.proofs.Words.{ExprWords, StmtWords, StmtsWords}
 use Rattle.value_ranges.proofs.Values.{CopiesFit, copy_fits}
 
 abbrev pub LoopFits : Loop → Type 0

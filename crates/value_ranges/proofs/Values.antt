@@ -10,7 +10,8 @@ use Rattle.forec_kernel.specs.declared.shape.VarCopy.{VarCopy}
 use Rattle.forec_kernel.specs.Terms.{Expr, Num, Local, LocalAt, Var, SharedAt, TableAt, Un, Bin, And, Or, Choose, Call, Exprs, no_exprs, more_exprs, Stmt, Nop, Set, SetAt, PutAt, Clear, Seq, If, While, Pause, Par, Enter, Return, Stmts, no_stmts, more_stmts}
 use Rattle.forec_kernel.specs.Shapes.{PlainKernel}
 use Rattle.forec_kernel.specs.Values.{word, cleared, copy_of, index_in, Value, Gives, Raises, more_units, value_then, Values, AllGive, OneRaises, one_more, first_then, values_then, Setting, setting, Sight, divided, at_index, val, vals, Flow, Goes, Returns, Breaks, more_flow, flow_with, flow_then, words_alone, stored_at, stored_flow, turns, flow, flows, flow_value, fresh_words, function_words, call_within}
-use Rattle.value_ranges.specs.Words.{AreWords, ExprWords, ExprsWords, StmtWords, StmtsWords, KernelWords}
+use Rattle.value_ranges.specs.Words.{AreWords, KernelWords}
+use Rattle.value_ranges.proofs.Words.{ExprWords, ExprsWords, StmtWords, StmtsWords}
 use Rattle.value_ranges.proofs.Numbers.{zero_fits, one_fits, truth_fits, unary_fits, OptionFits, binary_fits}
 use Rattle.value_ranges.proofs.Lists.{all_get, all_set, all_append, all_replicate}
 

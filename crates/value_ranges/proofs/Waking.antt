@@ -7,7 +7,7 @@ use Rattle.forec_kernel.specs.Shapes.{PlainKernel}
 use Rattle.forec_kernel.specs.Values.{Value, Gives, Raises}
 use Rattle.forec_kernel.specs.Texts.{After, Go_on, Again, Running, Paused, Ended, Gone, Trapped, RunningText, Done, Run, Then, Turning, Resting, Fork, Held, Watch, Last, Threads, no_threads, child, uses_of, handed_down}
 use Rattle.forec_kernel.specs.Steps.{evaluated, Woken, Wakes, Stays, more_woken, woken_in, woken_with, refilled, watched_on, text_if, woken, woken_children}
-use Rattle.value_ranges.specs.Words.{ExprWords}
+use Rattle.value_ranges.proofs.Words.{ExprWords}
 use Rattle.value_ranges.proofs.Values.{CopiesFit}
 use Rattle.value_ranges.proofs.Texts.{AfterFits, TextFits, ThreadsFit, handed_fits}
 
