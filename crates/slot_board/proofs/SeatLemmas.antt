@@ -8,12 +8,13 @@ use Rattle.copy_slots.specs.declared.view.View.{View}
 use Rattle.copy_slots.specs.SeatEnds.{IsBoard, HasEnds}
 use Rattle.copy_slots.specs.Ports.{PortState, MailboxEnds, parent_at, child_at, on_parent, on_child, sent_by, taken_by, IsParent, IsChild, sender_in, taker_in}
 use Rattle.copy_slots.specs.Steps.{HasParentAt, HasChildWith, ChangesParent, ChangesChild}
+use Rattle.copy_slots.proofs.EndLists.{all_ends, parent_inside, parent_is, child_inside, child_is}
 use Rattle.copy_slots.proofs.PortLemmas.{set_at}
 use Rattle.copy_slots.proofs.Seating.{at_index}
 use Rattle.slot_board.specs.declared.port.SlotPort.{SlotPort}
 use Rattle.slot_board.specs.declared.seats.EndSeats.{EndSeats}
 use Rattle.slot_board.specs.Slots.{PairSits, AllPairs, IsWatchSeat, pair_ends, sender_of, taker_of, port_state}
-use Rattle.slot_board.proofs.Pairing.{both_of, all_ends, parent_inside, parent_is, parent_state, parent_repaired, child_inside, child_is, child_state, child_repaired, repairs}
+use Rattle.slot_board.proofs.Pairing.{both_of, parent_state, parent_repaired, child_state, child_repaired, repairs}
 
 module _ {W P Q : Type 0} (s : SlotPort W P Q) where
   abbrev seats : List (EndSeats W P Q)
