@@ -8,7 +8,7 @@ use Rattle.forec_tree.specs.Terms.{PlainGlobal, IsGlobal, IsFunction, Text}
 use Rattle.forec_tree.specs.Variables.{PlainVariable, elements, elements_from, variables_of, variables}
 use Rattle.text_kernel.specs.Bindings.{number_of, first_value, nth_value}
 use Rattle.text_kernel.specs.Kernels.{padded, initial_value, variable_shape, table_of, tables_of, kernel_of}
-use Rattle.value_ranges.specs.Words.{AreWords, words, KernelWords}
+use Rattle.value_ranges.specs.Words.{AreWords, fitting_words, KernelWords}
 use Rattle.value_ranges.proofs.Numbers.{zero_fits}
 use Rattle.value_ranges.proofs.Lists.{all_append}
 use Rattle.value_ranges.proofs.Ticks.{values_fit}
@@ -34,7 +34,7 @@ initial_fits : (v : PlainVariable) → NumbersFit v.global.values → FitsSigned
 initial_fits v h = pick v.index
   where
     pick : (i : Option ℕ) → FitsSigned w32 (elim i [ None ↦ first_value v.global.values | Some j ↦ nth_value j v.global.values ])
-    pick None = first_holds words small_words v.global.values h
+    pick None = first_holds fitting_words small_words v.global.values h
     pick (Some j) = nth_fits j v.global.values h
 
 abbrev VariablesWords : List PlainVariable → Type 0
@@ -51,7 +51,7 @@ global_words g h = pick (stated_length g)
     pick None = (h, tt)
     pick (Some n) = elements_words g h 0 (elements n)
 
-variables_words : (xs : Text) → TextHolds words xs → VariablesWords (variables xs)
+variables_words : (xs : Text) → TextHolds fitting_words xs → VariablesWords (variables xs)
 variables_words [] h = tt
 variables_words (IsFunction f ∷ rest) h = variables_words rest h.1
 variables_words (IsGlobal g ∷ rest) h = pick (is_constant g.kind) (variables_words rest h.1)
@@ -80,15 +80,15 @@ module _ (text : Text) (names : List (List ℕ)) where
       pick true (Some n) = (padded_fits (number_of n) g.values h, tt)
       pick false size = tt
 
-  tables_fit : (xs : Text) → TextHolds words xs → AllByRecursion AreWords (tables_of text names xs)
+  tables_fit : (xs : Text) → TextHolds fitting_words xs → AllByRecursion AreWords (tables_of text names xs)
   tables_fit [] h = tt
   tables_fit (IsFunction f ∷ rest) h = tables_fit rest h.1
   tables_fit (IsGlobal g ∷ rest) h = all_append AreWords (table_of text names g) (tables_of text names rest) (table_fits g h.0) (tables_fit rest h.1)
 
-  has_words : TextHolds words text → KernelWords (kernel_of text names)
+  has_words : TextHolds fitting_words text → KernelWords (kernel_of text names)
   unfolding kernel_of
   has_words all =
-      let k = bodies_hold words small_words text names all in
+      let k = bodies_hold fitting_words small_words text names all in
       record {
         threads = k.threads;
         functions = k.functions;
@@ -99,9 +99,9 @@ module _ (text : Text) (names : List (List ℕ)) where
 pub spelled_programs_have_words : SpelledProgramsHaveWords
 spelled_programs_have_words bytes tokens names limit program lexed spelled =
     has_words program names
-    (spelled_holds words small_words limit program tokens spelled
-    (lexed_holds words bytes tokens names spelled.spelt lexed spelled.are
-    (all_into TokenFits (TokenHolds words) (λ t fits. record { number = fits; place = tt }) tokens (cuts_fit lexed.lexes.cuts))))
+    (spelled_holds fitting_words small_words limit program tokens spelled
+    (lexed_holds fitting_words bytes tokens names spelled.spelt lexed spelled.are
+    (all_into TokenFits (TokenHolds fitting_words) (λ t fits. record { number = fits; place = tt }) tokens (cuts_fit lexed.lexes.cuts))))
 
 pub spelled_runs_fit : SpelledRunsFit
 spelled_runs_fit bytes tokens names limit program lexed spelled budget rows fit =

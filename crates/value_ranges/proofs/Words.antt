@@ -2,19 +2,19 @@
 use Rattle.std.specs.Prelude.{List}
 use Rattle.forec_kernel.specs.Terms.{Expr, Exprs, Branch, Stmt, Stmts}
 use Rattle.value_ranges.specs.Properties.{ExprHolds, ExprsHolds, BranchesHolds, StmtHolds, StmtsHolds}
-use Rattle.value_ranges.specs.Words.{words}
+use Rattle.value_ranges.specs.Words.{fitting_words}
 
 abbrev pub ExprWords : Expr → Type 0
-ExprWords = ExprHolds words
+ExprWords = ExprHolds fitting_words
 
 abbrev pub ExprsWords : Exprs → Type 0
-ExprsWords = ExprsHolds words
+ExprsWords = ExprsHolds fitting_words
 
 abbrev pub BranchesWords : List Branch → Type 0
-BranchesWords = BranchesHolds words
+BranchesWords = BranchesHolds fitting_words
 
 abbrev pub StmtWords : Stmt → Type 0
-StmtWords = StmtHolds words
+StmtWords = StmtHolds fitting_words
 
 abbrev pub StmtsWords : Stmts → Type 0
-StmtsWords = StmtsHolds words
+StmtsWords = StmtsHolds fitting_words
