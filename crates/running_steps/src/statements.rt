@@ -1,6 +1,6 @@
 //! One step of a statement, and of a loop in progress.
 
-ghost use Rattle.std.specs.Prelude.{◌≡◌, ◌<◌, ◌+◌, ℕ, ℤ, map, Some};
+ghost use Rattle.std.specs.Prelude.{◌≡◌, ◌<◌, ◌+◌, ℕ, ℤ, map, Some, None, IfOk, IfErr};
 ghost use Rattle.forec_kernel.specs.Shapes.{PlainKernel, plain_kernel};
 ghost use Rattle.forec_kernel.specs.Plain.{expr, exprs, stmt, branch};
 ghost use Rattle.forec_kernel.specs.Terms as terms;
@@ -190,12 +190,21 @@ fn after_assign<'k>(to: Spot, part: Result<i32, Halt>, left: &mut u64) -> Result
     ensures { (k : PlainKernel) → IsMoveAfter part left.old left.new result
         (λ s n. assigned (record { kernel = k; uses = s.uses }) s.words s.copies to n) }
 {
-    match part {
-        Ok(n) => match pay(1, left) {
-            Ok(()) => Ok(Step::Sets { to, value: n }),
-            Err(halt) => Err(halt),
-        },
-        Err(halt) => Err(halt),
+    let n = tested(part, left)?;
+    Ok(Step::Sets { to, value: n })
+}
+
+/// Where an element stands in an array of so many, or the trap of its index.
+fn element(length: u32, index: i32, place: Place) -> Result<usize, Halt>
+    ensures ok { IfOk result (λ at. index_in length index ≡ Some at) }
+    ensures err { IfErr result (λ h. (h ≡ Halt.Trapped place Trap.Index) × (index_in length index ≡ None)) }
+{
+    match index_within(length as usize, index) {
+        Some(at) => Ok(at),
+        None => Err(Halt::Trapped {
+            place,
+            trap: Trap::Index,
+        }),
     }
 }
 
@@ -210,22 +219,12 @@ fn after_assign_at<'k>(
     ensures { IsMoveAfter part left.old left.new result
         (λ s x. assigned_at s.words s.copies slot (index_in length index) x place) }
 {
-    match part {
-        Ok(n) => match pay(1, left) {
-            Ok(()) => match index_within(length as usize, index) {
-                Some(at) => Ok(Step::SetsAt {
-                    slot: slot as usize + at,
-                    value: n,
-                }),
-                None => Err(Halt::Trapped {
-                    place,
-                    trap: Trap::Index,
-                }),
-            },
-            Err(halt) => Err(halt),
-        },
-        Err(halt) => Err(halt),
-    }
+    let n = tested(part, left)?;
+    let at = element(length, index, place)?;
+    Ok(Step::SetsAt {
+        slot: slot as usize + at,
+        value: n,
+    })
 }
 
 fn after_put_at<'k>(
@@ -240,22 +239,12 @@ fn after_put_at<'k>(
         (λ s x. shared_at (record { kernel = k; uses = s.uses }) s.words s.copies variable
         (index_in length index) x place) }
 {
-    match part {
-        Ok(n) => match pay(1, left) {
-            Ok(()) => match index_within(length as usize, index) {
-                Some(at) => Ok(Step::Puts {
-                    variable: variable as usize + at,
-                    value: n,
-                }),
-                None => Err(Halt::Trapped {
-                    place,
-                    trap: Trap::Index,
-                }),
-            },
-            Err(halt) => Err(halt),
-        },
-        Err(halt) => Err(halt),
-    }
+    let n = tested(part, left)?;
+    let at = element(length, index, place)?;
+    Ok(Step::Puts {
+        variable: variable as usize + at,
+        value: n,
+    })
 }
 
 fn clear_step<'k>(slot: u32, length: u32, left: &mut u64) -> Result<Step<'k>, Halt>
