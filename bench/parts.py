@@ -16,8 +16,8 @@ PARTS = (
     ("threads entered and left", "one_core", "core_machine", "thread_state", "core_seats", "core_host", "trace_runs::hosted"),
     ("the row", "trace_rows::form", "trace_rows::rows", "trace_rows::lines", "trace_rows::buffer", "trace_rows::steps", "trace_rows::values",
      "trace_rows::numbers", "trace_rows::changes", "trace_rows::names", "trace_rows::words", "memchr", "tick_jobs::job"),
-    ("the line", "trace_rows::tick_line", "trace_rows::decimals", "itoa", "trace_runs::waiting", "trace_runs::format"),
-    ("the loop over rows", "trace_runs::ticks", "trace_runs::hosting"),
+    ("the line", "trace_rows::tick_line", "trace_rows::decimals", "itoa", "trace_ticks::waiting", "trace_ticks::format"),
+    ("the loop over rows", "trace_ticks::ticks", "trace_runs::hosting"),
     ("memory copied and cleared", "__mem", "mem"),
 )
 REST = "the rest"

@@ -4,7 +4,7 @@ ghost use Rattle.std.specs.Prelude.{◌≡◌, ◌∷◌, [], ℕ, Some, IfOk, O
 ghost use Rattle.forec_kernel.specs.Combining.{contains};
 ghost use Rattle.thread_code.specs.Plain.{plain_code};
 ghost use Rattle.core_bells.specs.Ropes.{new_rope, new_ropes};
-ghost use Rattle.core_machine.specs.Room.{AreNeeds};
+ghost use Rattle.thread_rooms.specs.Room.{AreNeeds};
 ghost use Rattle.core_seats.specs.Loads.{CanLoad};
 ghost use Rattle.core_host.specs.Hosted.{Hosted};
 ghost use Rattle.board_hosts.specs.Boards.{ArePorts};
@@ -14,12 +14,12 @@ use copy_slots::Port;
 use core_alloc::Placement;
 use core_bells::{Bells, GivesRopes, Rope};
 use core_host::{Host, Worker};
-use core_machine::Needs;
 use core_seats::ForecWork;
 use forec_base::OutOfMemory;
 use slot_board::{GivesPorts, SlotBoard, SlotPort};
 use std::alloc::Global;
 use thread_code::Code;
+use thread_rooms::Needs;
 
 /// The hosts of a code's threads, each with those of one core.
 #[derive(Drop)]

@@ -3,9 +3,9 @@ use Rattle.std.proofs.Common.{ℕ, zero, suc, ◌+◌, ◌-◌, ◌==◌, ◌<�
 use Rattle.std.proofs.lemmas.List.{length-map, take-append-drop}
 use Rattle.loop_check.proofs.IndexLemmas.{split}
 use Rattle.text_kernel.specs.declared.names.Slot.{Slot}
-use Rattle.forec_check.specs.declared.scopes.declaration.Declaration.{Declaration}
+use Rattle.program_walk.specs.declared.scopes.declaration.Declaration.{Declaration}
 use Rattle.text_kernel.specs.Bindings.{slot_id, find_slot}
-use Rattle.forec_check.specs.Declarations.{id_of, last_from, last_of}
+use Rattle.program_walk.specs.Declarations.{id_of, last_from, last_of}
 
 -- where the last slot of a name stands, counted from 1
 abbrev slot_from : ℕ → ℕ → ℕ → List Slot → ℕ

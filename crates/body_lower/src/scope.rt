@@ -1,13 +1,13 @@
 //! The locals that a statement sees.
 
 ghost use Rattle.std.specs.Prelude.{◌≡◌, ◌≤◌, ◌++◌, ◌∷◌, [], ℕ, map, length, drop, take, None, OnOk, OnErr};
-ghost use Rattle.forec_check.specs.Declarations.{id_of};
+ghost use Rattle.program_walk.specs.Declarations.{id_of};
 ghost use Rattle.text_kernel.specs.Bindings as bindings;
 
 use crate::parts::sum;
 use forec_base::OutOfMemory;
-use forec_check::Declarations;
 use forec_tree::Name;
+use program_walk::Declarations;
 use std::alloc::Global;
 use text_kernel::Slot;
 

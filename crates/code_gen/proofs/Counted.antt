@@ -1,26 +1,12 @@
 -- Sizes that are counted are the lengths of the code.
-use Rattle.std.proofs.Common.{◌≡◌, ℕ, ◌+◌, List, [], ◌∷◌, ◌++◌, length, Option, Some, None, Bool, true, false, refl, ap, ◌∙◌, append_assoc, length-append, arith}
-use Rattle.std.specs.Prelude.{slice_set}
-use Rattle.std.proofs.Math.Seq.{set-append_seam}
-use mir.Val.{bool_byte}
+use Rattle.std.proofs.Common.{◌≡◌, ℕ, ◌+◌, List, [], ◌∷◌, ◌++◌, length, Option, Some, None, Bool, true, false, refl, length-append, arith}
 use Rattle.forec_kernel.specs.Terms.{Expr, Num, Local, LocalAt, Var, SharedAt, TableAt, Un, Bin, And, Or, Choose, Call, Exprs, no_exprs, more_exprs, Branch, Stmt, Nop, Set, SetAt, PutAt, Clear, Seq, If, While, Pause, Par, Enter, Return, Stmts, no_stmts, more_stmts}
 use Rattle.forec_kernel.specs.Shapes.{PlainThread}
 use Rattle.thread_code.specs.declared.instruction.Instruction.TheVariants as instruction
 use Rattle.code_gen.specs.Expressions.{expression_code, expressions_code}
-use Rattle.code_gen.specs.Statements.{Around, Outside, InLoop, InAbort, loops, weaks, checks, guard, prologue, fork_code, if_code, inner, fill_code, turn_code, loop_code, enter_code, par_number, arguments_code, statement_code, statements_code}
-use Rattle.code_gen.specs.Sizes.{expression_length, expressions_length, arguments_length, count_if, counted_loops, entry_length, statement_length, statements_length}
+use Rattle.code_gen.specs.Statements.{Around, Outside, InAbort, loops, weaks, checks, guard, prologue, fork_code, inner, fill_code, turn_code, loop_code, enter_code, par_number, arguments_code, statement_code, statements_code}
+use Rattle.code_sizes.specs.Sizes.{expression_length, expressions_length, arguments_length, count_if, counted_loops, entry_length, statement_length, statements_length}
 use Rattle.code_gen.proofs.Lengths.{loop_length, if_length, fork_length}
-
--- the size of an abort's body is put where a 0 was
-pub put_size : (old pushed all rest : List ℕ) (n x : ℕ) → n ≡ length old → pushed ≡ old ++ 0 ∷ [] → all ≡ pushed ++ rest → slice_set all n x ≡ old ++ x ∷ rest
-put_size old pushed all rest n x h e f =
-    let flat : (old ++ 0 ∷ []) ++ rest ≡ old ++ 0 ∷ rest = append_assoc old (0 ∷ []) rest in
-    let is : all ≡ old ++ 0 ∷ rest = f ∙ ap (λ l. l ++ rest) e ∙ flat in
-    ap (λ l. slice_set l n x) is ∙ ap (λ i. slice_set (old ++ 0 ∷ rest) i x) h ∙ set-append_seam old 0 rest x
-
-pub one_byte : (b : Bool) → bool_byte b ≡ count_if b
-one_byte true = refl
-one_byte false = refl
 
 mutual
   pub expression_is : (p : ℕ) (e : Expr) → length (expression_code p e) ≡ expression_length e

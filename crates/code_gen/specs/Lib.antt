@@ -1,6 +1,5 @@
 pub mod Expressions
 pub mod Statements
-pub mod Sizes
 pub mod Blocks
 pub mod Arounds
 pub mod StatementCode

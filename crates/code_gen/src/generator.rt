@@ -10,9 +10,9 @@ ghost use Rattle.code_gen.specs.Statements.{Outside, statement_code};
 ghost use Rattle.code_gen.specs.Blocks.{thread_body_block, function_body_block, thread_block, function_block, blocks_from, counters_in, counters_of, flags_in, flags_of};
 
 use crate::around::{Around, Surroundings};
-use crate::sizes::statement_size;
 use crate::statements::Emitter;
 use crate::writing::{MOST_FUSED, MOST_INSTRUCTIONS, put};
+use code_sizes::statement_size;
 use forec_base::OutOfMemory;
 use forec_kernel::{FunctionShape, Kernel, KernelParts, Statement, ThreadShape, copy_shape};
 use std::alloc::Global;

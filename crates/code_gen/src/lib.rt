@@ -9,7 +9,6 @@
 mod around;
 mod expressions;
 mod generator;
-mod sizes;
 mod statements;
 mod writing;
 

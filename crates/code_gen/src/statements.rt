@@ -3,7 +3,7 @@
 ghost use Rattle.std.specs.Prelude.{◌≡◌, ◌+◌, [], ◌∷◌, ◌++◌, length, map, OnOk, IfOk};
 ghost use Rattle.forec_kernel.specs.Plain.{expr, exprs, stmt, stmts, branch};
 ghost use Rattle.forec_kernel.specs.Shapes.{plain_thread};
-ghost use Rattle.forec_kernel.specs.Terms.{SetAt, PutAt, While, Enter};
+ghost use Rattle.forec_kernel.specs.Terms.{SetAt, PutAt, While, Par, Enter};
 ghost use Rattle.code_gen.specs.Statements.{loops, weaks, checks, prologue, wait_code, pause_code, fork_code, set_code, entry_code, par_number, arguments_code};
 ghost use Rattle.code_gen.specs.Arounds.{plain_around, optional_instruction};
 ghost use Rattle.code_gen.specs.StatementCode.{assignment_code, code_within, codes_within, loop_within};
@@ -194,6 +194,19 @@ fn emit_arguments(steps: &mut Vec<Instruction>, branches: &[Launch]) -> Result<(
         emit_expressions(steps, &launch.args)?;
     }
     Ok(())
+}
+
+fn emit_par(
+    steps: &mut Vec<Instruction>,
+    branches: &[Launch],
+    surroundings: &Surroundings<'_>,
+) -> Result<(), OutOfMemory>
+    ensures { OnOk result (steps.new.items ≡ steps.old.items
+        ++ code_within surroundings.now (length steps.old.items) (Par (map branch branches.now))) }
+{
+    emit_arguments(steps, branches)?;
+    let par = number_of(surroundings.threads, branches);
+    emit_fork(steps, par, surroundings)
 }
 
 fn emit_set_at(
@@ -439,11 +452,7 @@ impl Emitter {
                 place,
             } => self.emit_while(body, test, *bound, *place, surroundings),
             Statement::Pause => emit_pause(&mut self.steps, surroundings),
-            Statement::Par { branches } => {
-                emit_arguments(&mut self.steps, branches)?;
-                let par = number_of(surroundings.threads, branches);
-                emit_fork(&mut self.steps, par, surroundings)
-            }
+            Statement::Par { branches } => emit_par(&mut self.steps, branches, surroundings),
             Statement::Enter {
                 weak,
                 immediate,

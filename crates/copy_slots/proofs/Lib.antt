@@ -1,4 +1,5 @@
 pub mod Dealing
+pub mod EndLists
 pub mod MailLemmas
 pub mod SeatEndLemmas
 pub mod PortLemmas

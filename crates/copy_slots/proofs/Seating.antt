@@ -5,7 +5,6 @@ use Rattle.atomic_table.specs.Table.{Me}
 use Rattle.atomic_table.specs.Seated.{TableId}
 use Rattle.atomic_table.specs.declared.shared.Seat.{Seat}
 use Rattle.copy_slots.specs.declared.view.View.{View}
-use Rattle.copy_slots.specs.declared.view.PacketAt.{PacketAt}
 use Rattle.copy_slots.specs.declared.view.Sender.{Sender}
 use Rattle.copy_slots.specs.declared.view.Taker.{Taker}
 use Rattle.copy_slots.specs.declared.view.Role.{Role}
@@ -14,7 +13,8 @@ use Rattle.copy_slots.specs.Mail.{role_checked, role_stopped, new_sender, new_ta
 use Rattle.copy_slots.specs.Fresh.{AllFresh, AllSit, fresh_ends, new_state}
 use Rattle.copy_slots.specs.declared.both.BothEnds.{BothEnds}
 use Rattle.copy_slots.specs.SeatEnds.{HasEnds, Watches}
-use Rattle.copy_slots.specs.Ports.{PortState, local_state, MailboxEnds, parent_at, child_at, on_parent, on_child, IsParent, IsChild, ends_of, sender_in, taker_in, is_keeper, after_check, stop_word, after_stop}
+use Rattle.copy_slots.specs.Ports.{PortState, local_state, MailboxEnds, parent_at, child_at, on_sender, on_taker, on_parent, on_child, ends_of, sender_in, taker_in, is_keeper, after_check, stop_word, after_stop}
+use Rattle.copy_slots.proofs.EndLists.{all_ends, parent_is as its_parent, child_is as its_child, parent_moved as its_parent_moved, child_moved as its_child_moved}
 use Rattle.copy_slots.proofs.SeatEndLemmas.{role_is}
 
 pub set_cases : {A : Type 0} (l : List A) (k j : ℕ) (a b : A) → slice_get (set l k a) j ≡ Some b → ((j ≡ k) × (a ≡ b)) ⊎ (slice_get l j ≡ Some b)
@@ -27,43 +27,26 @@ set_cases (x ∷ xs) (suc k) (suc j) a b e = ⊎_elim (λ t. inl (ap suc t.0, t.
 pub at_index : {A : Type 0} (l : List A) (k : ℕ) (a : A) → k < length l → a ≡ get_or l k a → slice_get l k ≡ Some a
 at_index l k a h e = slice_get-get_or l k a h ∙ ap Some (sym e)
 
+-- as `EndLists` has it, where each seat has both ends of its mailbox
 module _ {A Q : Type 0} (f : A → Role Q) where
   abbrev pub ends_in : List A → List (MailboxEnds Q)
-  ends_in l = map ends_of (map f l)
-
-  pub parent_inside : (l : List A) (k : ℕ) (p : PacketAt) → IsParent (parent_at (ends_in l) k) p → k < length l
-  parent_inside [] k p h = absurd h
-  parent_inside (a ∷ l) zero p h = omega arith
-  parent_inside (a ∷ l) (suc k) p h = let t = parent_inside l k p h in omega arith
-
-  pub child_inside : (l : List A) (k : ℕ) (b : Bool) → IsChild (child_at (ends_in l) k) b → k < length l
-  child_inside [] k b h = absurd h
-  child_inside (a ∷ l) zero b h = omega arith
-  child_inside (a ∷ l) (suc k) b h = let t = child_inside l k b h in omega arith
+  ends_in l = all_ends f ends_of l
 
   pub parent_is : (l : List A) (k j : ℕ) (a : A) (p : Option (Sender Q)) (c : Option (Taker Q)) → slice_get l k ≡ Some a → f a ≡ Mailbox j p c → parent_at (ends_in l) k ≡ p
-  parent_is [] k j a p c e is = absurd (cc)
-  parent_is (b ∷ l) zero j a p c e is = let same : b ≡ a = cc in ap (λ z. (ends_of (f z)).parent) same ∙ ap (λ r. (ends_of r).parent) is
-  parent_is (b ∷ l) (suc k) j a p c e is = parent_is l k j a p c e is
+  parent_is l k j a p c e is = its_parent f ends_of l k a e ∙ ap (λ r. (ends_of r).parent) is
 
   pub child_is : (l : List A) (k j : ℕ) (a : A) (p : Option (Sender Q)) (c : Option (Taker Q)) → slice_get l k ≡ Some a → f a ≡ Mailbox j p c → child_at (ends_in l) k ≡ c
-  child_is [] k j a p c e is = absurd (cc)
-  child_is (b ∷ l) zero j a p c e is = let same : b ≡ a = cc in ap (λ z. (ends_of (f z)).child) same ∙ ap (λ r. (ends_of r).child) is
-  child_is (b ∷ l) (suc k) j a p c e is = child_is l k j a p c e is
+  child_is l k j a p c e is = its_child f ends_of l k a e ∙ ap (λ r. (ends_of r).child) is
 
   pub parent_moved : (l : List A) (k j : ℕ) (a b : A) (x : Sender Q) (g : Sender Q → Sender Q) (c : Option (Taker Q)) → slice_get l k ≡ Some a → f a ≡ Mailbox j (Some x) c → f b ≡ Mailbox j (Some (g x)) c
       → ends_in (set l k b) ≡ on_parent (ends_in l) k g
-  parent_moved [] k j a b x g c e is is' = absurd (cc)
-  parent_moved (h ∷ l) zero j a b x g c e is is' = let same : h ≡ a = cc in let old = ap f same ∙ is in
-      ap (λ r. ends_of r ∷ ends_in l) is' ∙ ap (λ r. on_parent (ends_of r ∷ ends_in l) zero g) (sym old)
-  parent_moved (h ∷ l) (suc k) j a b x g c e is is' = ap (λ t. ends_of (f h) ∷ t) (parent_moved l k j a b x g c e is is')
+  parent_moved l k j a b x g c e is is' = its_parent_moved f ends_of l k a b g e
+      (ap ends_of is' ∙ ap (λ (r : Role Q). let es : MailboxEnds Q = record { parent = on_sender g (ends_of r).parent; child = (ends_of r).child } in es) (sym is))
 
   pub child_moved : (l : List A) (k j : ℕ) (a b : A) (y : Taker Q) (g : Taker Q → Taker Q) (p : Option (Sender Q)) → slice_get l k ≡ Some a → f a ≡ Mailbox j p (Some y) → f b ≡ Mailbox j p (Some (g y))
       → ends_in (set l k b) ≡ on_child (ends_in l) k g
-  child_moved [] k j a b y g p e is is' = absurd (cc)
-  child_moved (h ∷ l) zero j a b y g p e is is' = let same : h ≡ a = cc in let old = ap f same ∙ is in
-      ap (λ r. ends_of r ∷ ends_in l) is' ∙ ap (λ r. on_child (ends_of r ∷ ends_in l) zero g) (sym old)
-  child_moved (h ∷ l) (suc k) j a b y g p e is is' = ap (λ t. ends_of (f h) ∷ t) (child_moved l k j a b y g p e is is')
+  child_moved l k j a b y g p e is is' = its_child_moved f ends_of l k a b g e
+      (ap ends_of is' ∙ ap (λ (r : Role Q). let es : MailboxEnds Q = record { parent = (ends_of r).parent; child = on_taker g (ends_of r).child } in es) (sym is))
 
 module _ {W P Q : Type 0} (z : TableId) (work : W) (blanks : List Q) where
   pub resits : (l : List (BothEnds W P Q)) (k : ℕ) (b : BothEnds W P Q) (x : Sender Q) (y : Taker Q) → AllSit z work blanks l → HasEnds z work blanks k (Some x) (Some y) b.seat → AllSit z work blanks (set l k b)
@@ -85,6 +68,11 @@ module _ {W A Q : Type 0} (f : A → Role Q) (work : W) (blanks : List Q) (watch
       → state_of (set l k b) ≡ record (state_of l) { ends = on_child (ends_in f l) k g }
   child_state l k j a b y g p e is is' = ap (λ (es : List (MailboxEnds Q)). let s : PortState W Q = record (state_of l) { ends = es } in s) (child_moved f l k j a b y g p e is is')
 
+pub keeper_is : {Q : Type 0} (role : Role Q) → is_keeper role ≡ true → (from : ℕ) × (st : Bool) × (ws : List ℕ) × (role ≡ Keeper from st ws)
+keeper_is (Idle ws) e = absurd (cc)
+keeper_is (Keeper from st ws) e = (from, st, ws, refl)
+keeper_is (Mailbox k p c) e = absurd (cc)
+
 module _ {W Q : Type 0} (work : W) (blanks : List Q) (roles : List (Role Q)) where
   pub root_checked : (w : ℕ) (role : Role Q) → is_keeper role ≡ true → is_keeper (role_checked w role) ≡ true
   root_checked w (Idle ws) e = e
@@ -95,11 +83,6 @@ module _ {W Q : Type 0} (work : W) (blanks : List Q) (roles : List (Role Q)) whe
   root_stopped (Idle ws) e = e
   root_stopped (Keeper from st ws) e = refl
   root_stopped (Mailbox k p c) e = e
-
-  pub keeper_is : (role : Role Q) → is_keeper role ≡ true → (from : ℕ) × (st : Bool) × (ws : List ℕ) × (role ≡ Keeper from st ws)
-  keeper_is (Idle ws) e = absurd (cc)
-  keeper_is (Keeper from st ws) e = (from, st, ws, refl)
-  keeper_is (Mailbox k p c) e = absurd (cc)
 
   pub checked_state : (stopped : Bool) (role : Role Q) → is_keeper role ≡ true → local_state work blanks roles (role_checked (stop_word stopped) role) ≡ after_check stopped (local_state work blanks roles role)
   checked_state w (Idle ws) e = absurd (cc)
@@ -134,7 +117,7 @@ all_same f v [] (y ∷ m) e h = absurd (omega arith)
 all_same f v (x ∷ l) [] e h = absurd (omega arith)
 all_same f v (x ∷ l) (y ∷ m) e h = λ i. h 0 x refl i ∷ all_same f v l m (omega arith) (λ j s t. h (suc j) s t) i
 
-map_map : {A B C : Type 0} (f : A → B) (g : B → C) (l : List A) → map g (map f l) ≡ map (λ x. g (f x)) l
+pub map_map : {A B C : Type 0} (f : A → B) (g : B → C) (l : List A) → map g (map f l) ≡ map (λ x. g (f x)) l
 map_map f g [] = refl
 map_map f g (x ∷ l) = ap (λ t. g (f x) ∷ t) (map_map f g l)
 

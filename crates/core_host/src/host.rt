@@ -4,14 +4,13 @@ ghost use Rattle.forec_kernel.specs.Composed.{TickInput};
 ghost use Rattle.forec_kernel.specs.Engine.{Job};
 ghost use Rattle.thread_code.specs.Plain.{plain_code};
 ghost use Rattle.copy_slots.specs.Ports.{ChildIs};
-ghost use Rattle.core_machine.specs.Room.{AreNeeds};
+ghost use Rattle.thread_rooms.specs.Room.{AreNeeds};
 ghost use Rattle.core_seats.specs.Loads.{CanLoad, AreOwn};
 
 use combine_tree::Packet;
 use copy_slots::Port;
 use core_alloc::Placement;
 use core_bells::Rope;
-use core_machine::Needs;
 use core_seats::{
     ForecWork, Round, Scheduler, empty_hands, is_among, own_mailboxes, places_of, seats_of,
 };
@@ -19,6 +18,7 @@ use forec_base::{Gate, OutOfMemory};
 use std::alloc::Global;
 use std::marker::Model;
 use thread_code::Code;
+use thread_rooms::Needs;
 
 /// What one call of [`Host::serve`] came to.
 #[derive(Clone, Copy, Debug, PartialEq, Eq)]

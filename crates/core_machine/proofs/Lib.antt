@@ -1,7 +1,6 @@
 pub mod Told
 pub mod Reloading
 pub mod Outer
-pub mod Spreading
 pub mod CallRuns
 pub mod Moving
 pub mod Jobs

@@ -1,6 +1,4 @@
 pub mod Branches
-pub mod Depths
-pub mod Room
 pub mod Held
 pub mod RunParts
 pub mod Threads

@@ -4,14 +4,11 @@
 mod branches;
 mod calls;
 mod counted;
-mod depths;
 mod fork;
 mod laws;
 mod merging;
-mod room;
 mod running;
 mod thread;
 
 pub use laws::replies_answer_jobs;
-pub use room::Needs;
 pub use thread::{Event, Thread};

@@ -1,0 +1,2 @@
+pub mod PortPairs
+pub mod RopePairs

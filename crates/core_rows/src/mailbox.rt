@@ -7,7 +7,7 @@ use std::test::Fail;
 
 /// Packets are numbers. Each job may be sent, and each reply answers it.
 #[derive(Drop)]
-struct AnyNumber;
+pub struct AnyNumber;
 
 impl Work for AnyNumber {
     type Packet = u32;

@@ -1,6 +1,7 @@
 //! A log of exchanges is read, and each thread is replayed by itself.
 
 use crate::compiled::compiled;
+use crate::logs::SUM;
 use exchange_replay::{Replay, Replayer, replay_thread};
 use forec_base::OutOfMemory;
 use log_text::Log;
@@ -15,19 +16,7 @@ void b(void) { s = s + 2; pause; }
 void main(void) { par(a, b); }
 ";
 
-const LOG: &[u8] = b"thread 1 jobs 2
-start 9999999 1
-paused 5 2*
-wake 10000000 5
-ended 0 5
-thread 2 jobs 2
-start 9999999 1
-paused 5 3*
-wake 10000000 5
-ended 0 5
-";
-
-/// The same, but for a copy in the first reply of thread 2.
+/// Another log than `SUM`: a copy in the first reply of thread 2 differs.
 const OTHER: &[u8] = b"thread 1 jobs 2
 start 9999999 1
 paused 5 2*
@@ -55,7 +44,7 @@ fn replays(alloc: Global, code: &Code, text: &[u8]) -> Result<(Replay, Replay, b
 #[test]
 fn replays_logs(rt: HostRuntime) -> Result<(), Fail> {
     let code = compiled(rt.alloc(), TEXT)?;
-    assert!(rt; replays(rt.alloc(), &code, LOG)? == (Replay::Same, Replay::Same, true));
+    assert!(rt; replays(rt.alloc(), &code, SUM)? == (Replay::Same, Replay::Same, true));
     assert!(rt;
         replays(rt.alloc(), &code, OTHER)? == (Replay::Same, Replay::Differs { job: 1 }, true)
     );

@@ -25,6 +25,7 @@ use Rattle.core_seats.specs.Done.{Posts, HasDone}
 use Rattle.core_seats.specs.Keeping.{SchedulerState, code_in, KeepsPort, KeepsBelow, IsSeated, IsFitted, LastReply, Idle, IsPacketOfParent, blank, reply, HasPacket, Quiet}
 use Rattle.core_seats.specs.Moving.{ChangesPacket}
 use Rattle.core_seats.proofs.Mails.{alike_same, alike_then, extends_same, extends_then}
+use Rattle.tick_jobs.proofs.DidLemmas.{did_for}
 use Rattle.tick_jobs.proofs.Lists.{by_equal}
 
 -- ---- what a thread has done
@@ -47,15 +48,7 @@ posts_keep c t m m' pairs same h = record {
 }
 
 pub done_keeps : (c : PlainCode) (h : Thread) (m m' : Mail) (jobs : List Job) → ((j : ℕ) → IsBranchOf c.shape h.number j → parent_at m'.ends j ≡ parent_at m.ends j) → HasDone c h m jobs → HasDone c h m' jobs
-done_keeps c h m m' jobs same d = record {
-  exchanges = d.exchanges;
-  outputs = d.outputs;
-  stands = d.stands;
-  jobs_are = d.jobs_are;
-  runs = d.runs;
-  complete = d.complete;
-  posts = posts_keep c h.number m m' _ same d.posts;
-}
+done_keeps c h m m' jobs same d = did_for c h jobs d (λ pairs posts. posts_keep c h.number m m' pairs same posts)
 
 -- ---- a thread and its mailbox
 

@@ -35,10 +35,10 @@ took m k q is =
 still_sent : (m : Mail) (k : ℕ) (q : PlainPacket) → sent (record m { ends = on_child m.ends k (taker_took q) }) k ≡ sent m k
 still_sent m k q = ap sent_by (parent_on_child m.ends k k (taker_took q))
 
-module _ (s0 : SchedulerState) (m : ℕ) (seated : IsSeated s0) (inside : m < length s0.mail.ends) (idle : Idle s0 m)
-    (code : CodeParts) (places : List ℕ) (mail mail1 : Mail) (seats : List Seat) (hands : List (Option Packet)) (view : state code places mail seats hands ≡ s0)
+module _ {s0 : SchedulerState} {m : ℕ} (seated : IsSeated s0) (inside : m < length s0.mail.ends) (idle : Idle s0 m)
+    {code : CodeParts} {places : List ℕ} {mail mail1 : Mail} {seats : List Seat} {hands : List (Option Packet)} (view : state code places mail seats hands ≡ s0)
     (p : Packet) (taking : mail1 ≡ after_take m (Some (plain_packet p)) mail) (job : Asks (plain_code mail.work.code.value) m (taken mail1 m))
-    (x : Seat) (read : x ≡ slice_index_or seats (m + 1) x) (found : Option Thread) (value : found ≡ x.thread) (h : Thread) (is : found ≡ Some h) where
+    {x : Seat} (read : x ≡ slice_index_or seats (m + 1) x) {found : Option Thread} (value : found ≡ x.thread) {h : Thread} (is : found ≡ Some h) where
   abbrev q : PlainPacket
   q = plain_packet p
 
@@ -66,7 +66,7 @@ module _ (s0 : SchedulerState) (m : ℕ) (seated : IsSeated s0) (inside : m < le
   seat_is =
       read ∙ ap (λ l. slice_index_or l (m + 1) x) (ap (λ (s : SchedulerState). s.seats) view) ∙ ap (λ n. slice_index_or s0.seats n x) one ∙ get_or_from_slice_get s0.seats (suc m) idle.sits.seat x idle.sits.at
 
-  pub same : h ≡ idle.thread
+  same : h ≡ idle.thread
   same = some_once h idle.thread (sym is ∙ value ∙ ap (λ (z : Seat). z.thread) seat_is ∙ idle.sits.is)
 
   pub loaded_now : Loaded (plain_code code) h
@@ -99,13 +99,13 @@ module _ (s0 : SchedulerState) (m : ℕ) (seated : IsSeated s0) (inside : m < le
         ∙ ap (λ (s : SchedulerState). record s { mail = record s.mail { ends = on_child s.mail.ends m (taker_took q) }; seats = slice_set s.seats (m + 1) y }) view
         ∙ ap (λ n. record s0 { mail = record s0.mail { ends = on_child s0.mail.ends m (taker_took q) }; seats = slice_set s0.seats n y }) one
 
-    pub raw_seated : IsSeated raw
+    raw_seated : IsSeated raw
     raw_seated = subst IsSeated (sym raw_is) (seated_work s0 m seated inside idle p asks y)
 
-    pub raw_fitted : s0.mail.tells ≡ true → IsFitted raw
+    raw_fitted : s0.mail.tells ≡ true → IsFitted raw
     raw_fitted tells = record { seated = raw_seated; tells = ap (λ (s : SchedulerState). s.mail.tells) raw_is ∙ tells }
 
-    module _ (h1 : Thread) (number : h1.number ≡ h.number)
+    module _ {h1 : Thread} (number : h1.number ≡ h.number)
         (stands : (xs : List Exchange) (job : Job) → IsJob q job → StandsFor (plain_code code) h xs → StandsFor (plain_code code) h1 (xs ++ record { job = job; replies = [] } ∷ [])) where
       number0 : h1.number ≡ idle.thread.number
       number0 = number ∙ ap (λ (z : Thread). z.number) same
@@ -115,18 +115,21 @@ module _ (s0 : SchedulerState) (m : ℕ) (seated : IsSeated s0) (inside : m < le
           subst (λ (z : CodeParts). StandsFor (plain_code z) h1 (xs ++ record { job = job; replies = [] } ∷ [])) same_code
           (stands xs job k (subst (λ (z : CodeParts). StandsFor (plain_code z) h xs) (sym same_code) (subst (λ z. StandsFor (code_in s0) z xs) (sym same) st)))
 
-      pub number1 : h1.number ≡ suc m
+      number1 : h1.number ≡ suc m
       number1 = number ∙ number_here
 
-      pub raw_above : QuietAbove s0 (suc m) → QuietAbove raw h1.number
+      raw_above : QuietAbove s0 (suc m) → QuietAbove raw h1.number
       raw_above above = subst (QuietAbove raw) (sym number1) (subst (λ s. QuietAbove s (suc m)) (sym raw_is) (above_work s0 m seated inside idle p asks y above))
 
-      pub raw_followed : HasFollowed raw h1
+      raw_followed : HasFollowed raw h1
       raw_followed = subst (λ s. HasFollowed s h1) (sym raw_is) (followed s0 m seated inside idle p asks y h1 number0 stands0)
 
-      module _ (tells : s0.mail.tells ≡ true) (turning : mail.tells ≡ true → (turn mail m ≢ 0) × (taken mail1 m ≡ sent mail1 m)) (s3 : SchedulerState) (h2 : Thread) (number2 : h2.number ≡ h1.number) (loaded2 : Loaded (code_in raw) h2) (replied : HasReply h2) (above3 : QuietAbove s3 h1.number) (leaves3 : KeepsBelow h1.number h1.number raw s3)
+      pub has_begun : (h1.number ≡ suc m) × (s0.mail.tells ≡ true → IsFitted raw) × HasFollowed raw h1 × (QuietAbove s0 (suc m) → QuietAbove raw h1.number)
+      has_begun = (number1, raw_fitted, raw_followed, raw_above)
+
+      module _ (tells : s0.mail.tells ≡ true) (turning : mail.tells ≡ true → (turn mail m ≢ 0) × (taken mail1 m ≡ sent mail1 m)) {s3 : SchedulerState} {h2 : Thread} (number2 : h2.number ≡ h1.number) (loaded2 : Loaded (code_in raw) h2) (replied : HasReply h2) (above3 : QuietAbove s3 h1.number) (leaves3 : KeepsBelow h1.number h1.number raw s3)
           (done3 : (jobs : List Job) (job : Job) → InJob (code_in raw) h1 raw.mail jobs job → InJob (code_in raw) h2 s3.mail jobs job)
-          (code2 : CodeParts) (places2 : List ℕ) (mail2 : Mail) (seats2 : List Seat) (hands2 : List (Option Packet)) (view2 : state code2 places2 mail2 seats2 hands2 ≡ s3) where
+          {code2 : CodeParts} {places2 : List ℕ} {mail2 : Mail} {seats2 : List Seat} {hands2 : List (Option Packet)} (view2 : state code2 places2 mail2 seats2 hands2 ≡ s3) where
         all : taken s0.mail m ++ q ∷ [] ≡ sent s0.mail m
         all = sym taken1 ∙ (turning (ap (λ (z : Mail). z.tells) same_mail ∙ tells)).1 ∙ ap (λ (z : Mail). sent z m) mail_is ∙ still_sent s0.mail m q
 
@@ -165,12 +168,12 @@ module _ (s0 : SchedulerState) (m : ℕ) (seated : IsSeated s0) (inside : m < le
           gives4 xs st =
               subst (λ (z : CodeParts). RepliesToLast (plain_code z) h2.number xs q') code2_is (gives xs (subst (λ (z : CodeParts). StandsFor (plain_code z) h2 xs) (sym code2_is) st))
 
-          pub answer_held : ChildIs mail2 m true
+          answer_held : ChildIs mail2 m true
           answer_held =
               subst (λ (z : Mail). ChildIs z m true) (sym (ap (λ (s : SchedulerState). s.mail) view2))
               (holds3 s0 m seated inside idle p asks y h1 number0 stands0 all s3 h2 number2 loaded3 replied above4 leaves4 in_done p' room4 kind' gives4)
 
-          pub answer_answers : Replies (plain_code mail2.work.code.value) m (taken mail2 m) q'
+          answer_answers : Replies (plain_code mail2.work.code.value) m (taken mail2 m) q'
           answer_answers =
               let work : mail2.work.code.value ≡ s0.code =
               ap (λ (s : SchedulerState). s.mail.work.code.value) view2 ∙ ap (λ w. w.code.value) leaves3.alike.work ∙ ap (λ (s : SchedulerState). s.mail.work.code.value) raw_is ∙ seated.work in
@@ -178,7 +181,10 @@ module _ (s0 : SchedulerState) (m : ℕ) (seated : IsSeated s0) (inside : m < le
               (subst (λ l. Replies (code_in s0) m l q') (sym (ap (λ (s : SchedulerState). taken s.mail m) view2))
               (its_replies s0 m seated inside idle p asks y h1 number0 stands0 all s3 h2 number2 loaded3 replied above4 leaves4 in_done p' room4 kind' gives4))
 
-          module _ (z : Seat) (sits : z.thread ≡ Some h2) (vacant : z.job ≡ None) (mail3 : Mail) (answering : mail3 ≡ after_answer m q' mail2) where
+          pub has_answer : ChildIs mail2 m true × Replies (plain_code mail2.work.code.value) m (taken mail2 m) q'
+          has_answer = (answer_held, answer_answers)
+
+          module _ (z : Seat) (sits : z.thread ≡ Some h2) (vacant : z.job ≡ None) {mail3 : Mail} (answering : mail3 ≡ after_answer m q' mail2) where
             abbrev pub raw_end : SchedulerState
             raw_end = state code2 places2 mail3 (slice_set seats2 (m + 1) z) hands2
 
@@ -188,17 +194,20 @@ module _ (s0 : SchedulerState) (m : ℕ) (seated : IsSeated s0) (inside : m < le
                 ∙ ap (λ (s : SchedulerState). record s { mail = record s.mail { ends = on_child s.mail.ends m (taker_answered q') }; seats = slice_set s.seats (m + 1) z }) view2
                 ∙ ap (λ n. record s3 { mail = record s3.mail { ends = on_child s3.mail.ends m (taker_answered q') }; seats = slice_set s3.seats n z }) one
 
-            pub end_back : LacksPacket s0 m → IsBack raw_end m
+            end_back : LacksPacket s0 m → IsBack raw_end m
             end_back lacks =
                 subst (λ s. IsBack s m) (sym raw_end_is)
                 (back s0 m seated inside idle p asks y h1 number0 stands0 all s3 h2 number2 loaded3 replied above4 leaves4 in_done p' room4 kind' gives4 z sits vacant lacks)
 
-            pub end_above : QuietAbove raw_end (suc m)
+            end_above : QuietAbove raw_end (suc m)
             end_above =
                 subst (λ s. QuietAbove s (suc m)) (sym raw_end_is)
                 (above_end s0 m seated inside idle p asks y h1 number0 stands0 all s3 h2 number2 loaded3 replied above4 leaves4 in_done p' room4 kind' gives4 z sits vacant)
 
-            pub end_leaves : KeepsBelow (suc m) m s0 raw_end
+            end_leaves : KeepsBelow (suc m) m s0 raw_end
             end_leaves =
                 subst (KeepsBelow (suc m) m s0) (sym raw_end_is)
                 (leaves_all s0 m seated inside idle p asks y h1 number0 stands0 all s3 h2 number2 loaded3 replied above4 leaves4 in_done p' room4 kind' gives4 z sits vacant)
+
+            pub has_ended : (LacksPacket s0 m → IsBack raw_end m) × QuietAbove raw_end (suc m) × KeepsBelow (suc m) m s0 raw_end
+            has_ended = (end_back, end_above, end_leaves)

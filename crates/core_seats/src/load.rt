@@ -4,16 +4,17 @@ ghost use Rattle.std.specs.Prelude.{◌≡◌, ◌<◌, ◌≤◌, ◌+◌, ◌+
 ghost use Rattle.forec_base.specs.declared.limits.TheConstants.{MAX_THREADS};
 ghost use Rattle.thread_code.specs.Plain.{plain_code};
 ghost use Rattle.combine_tree.specs.declared.packet.Packet.{Packet as PlainPacketState};
-ghost use Rattle.core_machine.specs.Room.{AreNeeds};
+ghost use Rattle.thread_rooms.specs.Room.{AreNeeds};
 ghost use Rattle.core_seats.specs.Loads.{AreNewSeats, ArePlaced, AreOwn, IsNewSeat, contains_core};
 
 use crate::seat::Seat;
 use combine_tree::Packet;
 use core_alloc::Placement;
-use core_machine::{Needs, Thread};
+use core_machine::Thread;
 use forec_base::OutOfMemory;
 use std::alloc::Global;
 use thread_code::Code;
+use thread_rooms::Needs;
 use tick_jobs::Boxed;
 
 /// The core of each thread, in order.

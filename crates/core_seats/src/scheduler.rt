@@ -1,9 +1,10 @@
 //! Threads at work, one after the other.
-ghost use Rattle.std.specs.Prelude.{◌≡◌, ◌≢◌, ◌≤◌, ◌<◌, ◌+◌, suc, List, Some, None, length, slice_get, true, false};
+ghost use Rattle.std.specs.Prelude.{◌≡◌, ◌≢◌, ◌≤◌, ◌<◌, ◌+◌, ◌-◌, suc, List, Some, None, length, slice_get, true, false};
 ghost use Rattle.forec_base.specs.declared.limits.TheConstants.{MAX_BUDGET, MAX_THREADS};
 ghost use Rattle.forec_kernel.specs.Engine.{Job, Reply, Written, Answered};
 ghost use Rattle.forec_kernel.specs.Packed.{HasRoom, IsJob};
 ghost use Rattle.thread_code.specs.Valid.{of_shape};
+ghost use Rattle.combine_tree.specs.declared.packet.Packet.{Packet as PacketState};
 ghost use Rattle.combine_tree.specs.Plain.{plain_packet};
 ghost use Rattle.copy_slots.specs.declared.view.PacketAt.TheVariants.{Held};
 ghost use Rattle.copy_slots.specs.Ports.{sent, got, turn, ParentIs};
@@ -160,6 +161,19 @@ impl<'c, P: Port<ForecWork> + Drop> Scheduler<'c, P> {
         }
     }
 
+    /// The reply of a branch, in its parent's hand.
+    #[inline(always)]
+    fn reply_of(&self, branch: u32) -> &Packet
+        requires some { 0 < branch }
+        requires there { (p : PacketState) × slice_get self.now.hands (branch - 1) ≡ Some (Some p) }
+        ensures { (p : PacketState) → slice_get self.now.hands (branch - 1) ≡ Some (Some p) → result.now ≡ p }
+    {
+        let Some(packet) = &self.hands[branch as usize - 1] else {
+            unreachable!()
+        };
+        packet
+    }
+
     /// Settles the replies of the thread's branches.
     #[inline(always)]
     pub(crate) fn settle(&self, thread: &mut Thread)
@@ -175,9 +189,7 @@ impl<'c, P: Port<ForecWork> + Drop> Scheduler<'c, P> {
     {
         let mut k = 0;
         while let Some(branch) = thread.active(self.code, k) {
-            let Some(packet) = &self.hands[branch as usize - 1] else {
-                unreachable!()
-            };
+            let packet = self.reply_of(branch);
             thread.settle(self.code, k, packet);
             k += 1;
         }
@@ -197,9 +209,7 @@ impl<'c, P: Port<ForecWork> + Drop> Scheduler<'c, P> {
     {
         let mut k = 0;
         while let Some(branch) = thread.active(self.code, k) {
-            let Some(packet) = &self.hands[branch as usize - 1] else {
-                unreachable!()
-            };
+            let packet = self.reply_of(branch);
             thread.joined(self.code, k, packet);
             k += 1;
         }

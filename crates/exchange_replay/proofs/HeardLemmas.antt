@@ -1,9 +1,7 @@
 -- The logged replies at a fork, one by one.
-use Rattle.std.proofs.Common.{◌≡◌, ℕ, suc, ◌+◌, ◌<◌, List, [], ◌∷◌, ◌++◌, take, length, get_or, refl, sym, ap, ◌∙◌, subst, arith}
-use Rattle.std.specs.Prelude.{Option, Some, None, slice_get, slice_index_or, vec_len}
-use Rattle.std.specs.declared.alloc.Global.{Global}
-use Rattle.std.specs.declared.vec.Vec.{Vec}
-use Rattle.std.proofs.lemmas.Option.{slice_get_within, slice_get-get_or, get_or_from_slice_get}
+use Rattle.std.proofs.Common.{◌≡◌, ℕ, suc, ◌+◌, List, [], ◌∷◌, ◌++◌, take, length, get_or, refl, sym, ap, ◌∙◌, subst, arith}
+use Rattle.std.specs.Prelude.{Option, Some, slice_get}
+use Rattle.std.proofs.lemmas.Option.{slice_get_within, slice_get-get_or}
 use Rattle.forec_kernel.specs.Engine.{Reply, WasPaused, WasEnded, WasTrapped, WasOver, Exchange}
 use Rattle.forec_kernel.specs.Packed.{HasRoom, IsReply}
 use Rattle.thread_code.specs.Plain.{PlainCode}
@@ -15,7 +13,7 @@ use Rattle.combine_tree.specs.Plain.{plain_packet, plain_kind}
 use Rattle.core_machine.specs.declared.thread.Thread.{Thread}
 use Rattle.core_machine.specs.Threads.{StandsFor}
 use Rattle.core_machine.specs.Forks.{IsReplyKind, with_replies}
-use Rattle.tick_jobs.proofs.Lists.{some_once, take_more}
+use Rattle.tick_jobs.proofs.Lists.{take_more}
 use Rattle.exchange_replay.specs.declared.track.Track.{Track}
 use Rattle.exchange_replay.specs.declared.walk.Walk.{Walk}
 use Rattle.exchange_replay.specs.Walks.{HasLoggedReply, HaveLoggedReplies}
@@ -42,31 +40,25 @@ module _ {c : PlainCode} {w : Walk} {branches : List ℕ} {rs : List Reply} (hea
   pub reply_at : (r : Reply) × (slice_get rs k ≡ Some r)
   reply_at = let lt = slice_get_within branches k b at in (get_or rs k WasOver, slice_get-get_or rs k WasOver (omega (arith, lt, heard.count)))
 
-  heard_at : HasLoggedReply c w b reply_at.0
+  pub heard_at : HasLoggedReply c w b reply_at.0
   heard_at = heard.each k b reply_at.0 at reply_at.1
 
-  pub in_tracks : (now : Vec (Option Track) Global) → now ≡ w.branches → b < vec_len now
-  in_tracks now same = subst (λ n. b < n) (sym now.ok.0) (subst (λ (v : Vec (Option Track) Global). b < length v.items) (sym same) (slice_get_within w.branches.items b (Some heard_at.track) heard_at.at))
+  module _ {tracks : List (Option Track)} (same : tracks ≡ w.branches.items) where
+    pub track_at : slice_get tracks b ≡ Some (Some heard_at.track)
+    track_at = ap (λ l. slice_get l b) same ∙ heard_at.at
 
-  module _ {x : Option Track} (read : x ≡ slice_index_or w.branches.items b x) where
-    track_is : x ≡ Some heard_at.track
-    track_is = read ∙ get_or_from_slice_get w.branches.items b (Some heard_at.track) x heard_at.at
+    module _ {p : Packet} (read : (x : Track) → slice_get tracks b ≡ Some (Some x) → p ≡ x.logged) where
+      logged : heard_at.track.logged ≡ p
+      logged = sym (read heard_at.track track_at)
 
-    pub has_track : x ≡ None → ⊥
-    has_track e = let f = sym track_is ∙ e in cc
+      pub its_reply : IsReply (plain_packet p) reply_at.0
+      its_reply = subst (λ (q : Packet). IsReply (plain_packet q) reply_at.0) logged heard_at.is
 
-    module _ {y : Track} (is : x ≡ Some y) where
-      same : heard_at.track ≡ y
-      same = some_once heard_at.track y (sym track_is ∙ is)
+      pub its_room : HasRoom (of_shape c.shape) b (plain_packet p)
+      its_room = subst (λ (q : Packet). HasRoom (of_shape c.shape) b (plain_packet q)) logged heard_at.fits.logged
 
-      pub its_reply : IsReply (plain_packet y.logged) reply_at.0
-      its_reply = subst (λ (z : Track). IsReply (plain_packet z.logged) reply_at.0) same heard_at.is
-
-      pub its_room : HasRoom (of_shape c.shape) b (plain_packet y.logged)
-      its_room = subst (λ (z : Track). HasRoom (of_shape c.shape) b (plain_packet z.logged)) same heard_at.fits.logged
-
-      pub its_kind : IsReplyKind y.logged.kind
-      its_kind = is_reply_kind y.logged.kind reply_at.0 y.logged refl its_reply
+      pub its_kind : IsReplyKind p.kind
+      its_kind = is_reply_kind p.kind reply_at.0 p refl its_reply
 
 -- one reply more was settled
 pub settled_more : (c : PlainCode) (h : Thread) (xs : List Exchange) (rs : List Reply) (k : ℕ) (r : Reply) → slice_get rs k ≡ Some r → StandsFor c h (with_replies xs (take k rs ++ r ∷ [])) → StandsFor c h (with_replies xs (take (k + 1) rs))

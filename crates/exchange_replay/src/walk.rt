@@ -17,6 +17,7 @@ ghost use Rattle.exchange_replay.specs.Walks.{WalksJob, WalksOn, HasBegunWalk, I
 ghost use Rattle.exchange_replay.specs.Walks.{HaveLoggedReplies, GivesReplies, JoinsLogged};
 
 use crate::track::Track;
+use combine_tree::Packet;
 use core_machine::{Event, Thread};
 use forec_base::OutOfMemory;
 use forec_kernel::Shape;
@@ -60,6 +61,17 @@ fn is_used_up(branch: &Option<Track>) -> bool
         Some(track) => track.is_used(),
         None => true,
     }
+}
+
+/// The reply that the track of a branch has read.
+fn logged_reply(branches: &[Option<Track>], branch: u32) -> &Packet
+    requires { (x : TrackState) × slice_get branches.now branch ≡ Some (Some x) }
+    ensures { (x : TrackState) → slice_get branches.now branch ≡ Some (Some x) → result.now ≡ x.logged }
+{
+    let Some(track) = &branches[branch as usize] else {
+        unreachable!()
+    };
+    &track.logged
 }
 
 impl Walk {
@@ -142,10 +154,8 @@ impl Walk {
     {
         let mut k = 0;
         while let Some(branch) = self.thread.active(code, k) {
-            let Some(track) = &self.branches[branch as usize] else {
-                unreachable!()
-            };
-            self.thread.settle(code, k, &track.logged);
+            let packet = logged_reply(&self.branches, branch);
+            self.thread.settle(code, k, packet);
             k += 1;
         }
     }
@@ -165,10 +175,8 @@ impl Walk {
     {
         let mut k = 0;
         while let Some(branch) = self.thread.active(code, k) {
-            let Some(track) = &self.branches[branch as usize] else {
-                unreachable!()
-            };
-            self.thread.joined(code, k, &track.logged);
+            let packet = logged_reply(&self.branches, branch);
+            self.thread.joined(code, k, packet);
             k += 1;
         }
     }

@@ -1,6 +1,7 @@
 -- The parsers of single tokens, and of lists with commas.
 use mathlib.Core.Path.{subst}
 use Rattle.std.proofs.Common.{◌≡◌, ℕ, ℤ, zero, suc, ◌+◌, ◌≤◌, ◌<◌, Bool, true, false, nat_lt, cond, List, [], ◌∷◌, ◌++◌, length, Option, Some, None, Ok, Err, refl, sym, ◌∙◌, ap, append_assoc, arith}
+use Rattle.forec_base.specs.declared.Place.{Place}
 use Rattle.forec_tree.specs.declared.token.Token.{Token}
 use Rattle.forec_tree.specs.declared.token.TokenKind.{TokenKind}
 use Rattle.forec_tree.specs.declared.token.TokenKind.TheVariants as kind
@@ -14,7 +15,7 @@ use Rattle.expr_parser.specs.declared.fixed.Fixed.TheVariants as fixed
 use Rattle.expr_parser.specs.Input.{Input, input, Parser, Outcome, and_then, ◌>>=◌, kind_ahead, take, raise}
 use Rattle.expr_parser.specs.Meaning.{is_fixed, token_name, token_number}
 use Rattle.expr_parser.specs.Reading as reading
-use Rattle.expr_parser.specs.Reading.{next_is, close, enter, name, read_number, name_by, number_by, separated, separated_from}
+use Rattle.expr_parser.specs.Reading.{next_is, close, enter, name, read_number, leaf_by, leaf, separated, separated_from}
 use Rattle.expr_parser.proofs.Spans.{tokens_append, longer, within_join, BothSucceed, step, ok_of, ok_pair, Took, Raised, took, raised, head_kind, take_ok}
 use Rattle.expr_parser.proofs.Closers.{kind_of, fixed-kind, kind-fixed}
 use Rattle.expr_parser.proofs.Exact.{Lang, Read, Exact, Bind, Part, part, Any, Follows, comes, too_high, above_here, above_later, above_front, follow_behind, follow_then, follow_as, bind, convert}
@@ -164,12 +165,36 @@ pub data Enclosing {A B : Type 0} (limit : ℕ) (g : ℕ → ℕ) (l r : Fixed) 
 abbrev pub Enclosed : {A B : Type 0} → Fixed → Fixed → (Token → A → B) → Lang A → Lang B
 Enclosed l r f P = EnclosedTo (λ v. v) l r f P
 
+-- a value, and then the level outside
+scoped_pair : {B : Type 0} (u : ℕ) (x y z : B) (i k j : Input) → ok_of x i ≡ ok_of y k → ok_of y (input k.rest u) ≡ ok_of z j → (x ≡ z) × (i.rest ≡ j.rest) × (u ≡ j.level)
+scoped_pair u x y z i k j a b =
+    let p = ok_pair x y i k a in
+    let q = ok_pair y z (input k.rest u) j b in
+    (p.0 ∙ q.0, ap (λ (m : Input). m.rest) p.1 ∙ ap (λ (m : Input). m.rest) q.1, ap (λ (m : Input). m.level) q.1)
+
 module _ {limit : ℕ} {A B : Type 0} {p : Parser A} {P P' : Lang A} (g : ℕ → ℕ) (low : (v : ℕ) → v ≤ limit → g v ≤ limit) (l r : Fixed) (f : Token → A → B) where
   pub enclosing_to : Exact limit p P P' → Exact limit (reading.enclosed limit l r f p) (EnclosedTo g l r f P) (Enclosing limit g l r f P')
   enclosing_to a = record { sound = so; complete = λ v w y ls rest q. of q rest }
     where
       finish : Token → A → Parser B
       finish t x = λ k. and_then (close r k) (λ _ m. ok_of (f t x) m)
+
+      -- what stands between an opening token and a closing one
+      between_read : (i m n o j : Input) (left right : Token) (x : A) → i.level ≤ limit → Raised limit left i m → Is l left → Read limit P x m n → Took right n o → Is r right
+          → o.rest ≡ j.rest → i.level ≡ j.level → Read limit (EnclosedTo g l r f P) (f left x) i j
+      between_read i m n o j left right x small e hl q t hr after level =
+          let back : n.rest ≡ right ∷ j.rest = t.front ∙ ap (λ u. right ∷ u) after in
+          let R : ℕ → Type 0 = λ v. P v x n.level q.spelt (kind_ahead n.rest) in
+          let S : Option TokenKind → Type 0 = λ k. P (i.level + 1) x n.level q.spelt k in
+          let inner : P (i.level + 1) x n.level q.spelt (Some right.kind) = subst S (ap kind_ahead back) (subst R e.level q.spells) in
+          let T : ℕ → Type 0 = λ v. EnclosedTo g l r f P i.level (f left x) v (at left (i.level + 1) ∷ (q.spelt ++ (at right (g i.level) ∷ []))) (kind_ahead j.rest) in
+          record {
+            spelt = at left (i.level + 1) ∷ (q.spelt ++ (at right (g i.level) ∷ []));
+            front = e.front ∙ ap (λ u. left ∷ u) (q.front ∙ ap (λ u. tokens q.spelt ++ u) back ∙ sym (tokens_append q.spelt (at right (g i.level) ∷ []) j.rest));
+            spells = subst T level (between right hl inner hr);
+            within = (e.small, within_join limit q.spelt (at right (g i.level) ∷ []) q.within (low i.level small, tt));
+            small = omega (arith, level);
+          }
 
       so : (i j : Input) (y : B) → i.level ≤ limit → reading.enclosed limit l r f p i ≡ Ok (y, j) → Read limit (EnclosedTo g l r f P) y i j
       so i j y small h =
@@ -180,23 +205,9 @@ module _ {limit : ℕ} {A B : Type 0} {p : Parser A} {P P' : Lang A} (g : ℕ �
           let e = entered limit l i b.value b.state b.was in
           let m = a.sound b.state c.state c.value (omega (arith, e.raised.level, e.raised.small)) c.was in
           let z1 = closed r c.state d.value d.state d.was in
-          let q = ok_pair (f b.value c.value) o.value d.state o.state d.goes in
-          let z = ok_pair o.value y (input o.state.rest i.level) j o.goes in
-          let R : ℕ → Type 0 = λ n. P n c.value c.state.level m.spelt (kind_ahead c.state.rest) in
-          let S : Option TokenKind → Type 0 = λ k. P (i.level + 1) c.value c.state.level m.spelt k in
-          let inner : P (i.level + 1) c.value c.state.level m.spelt (Some d.value.kind) = subst S (ap kind_ahead z1.took.front) (subst R e.raised.level m.spells) in
-          let last : d.state.rest ≡ j.rest = ap (λ (u : Input). u.rest) q.1 ∙ ap (λ (u : Input). u.rest) z.1 in
-          let T : ℕ → Type 0 = λ n. EnclosedTo g l r f P i.level (f b.value c.value) n (at b.value (i.level + 1) ∷ (m.spelt ++ (at d.value (g i.level) ∷ []))) (kind_ahead j.rest) in
-          let U : B → Type 0 = λ u. EnclosedTo g l r f P i.level u j.level (at b.value (i.level + 1) ∷ (m.spelt ++ (at d.value (g i.level) ∷ []))) (kind_ahead j.rest) in
-          let level : i.level ≡ j.level = ap (λ (u : Input). u.level) z.1 in
-          record {
-            spelt = at b.value (i.level + 1) ∷ (m.spelt ++ (at d.value (g i.level) ∷ []));
-            front = e.raised.front ∙ ap (λ u. b.value ∷ u)
-                (m.front ∙ ap (λ u. tokens m.spelt ++ u) (z1.took.front ∙ ap (λ u. d.value ∷ u) last) ∙ sym (tokens_append m.spelt (at d.value (g i.level) ∷ []) j.rest));
-            spells = subst U (q.0 ∙ z.0) (subst T level (between d.value e.is inner z1.is));
-            within = (e.raised.small, within_join limit m.spelt (at d.value (g i.level) ∷ []) m.within (low i.level small, tt));
-            small = omega (arith, level);
-          }
+          let q = scoped_pair i.level (f b.value c.value) o.value y d.state o.state j d.goes o.goes in
+          let R : B → Type 0 = λ u. Read limit (EnclosedTo g l r f P) u i j in
+          subst R q.0 (between_read i b.state c.state d.state j b.value d.value c.value small e.raised e.is m z1.took z1.is q.1 q.2)
 
       closes_by : {v w : ℕ} (left right : Token) {x : A} {ls : List Spelt} {rest : List Token} {o : Outcome A} → Is r right → Follows limit x w ls (right ∷ rest) o
           → Follows limit (f left x) v (at left (v + 1) ∷ (ls ++ (at right (g v) ∷ []))) rest (and_then (and_then o (finish left)) (λ x k. Ok (x, input k.rest v)))
@@ -223,69 +234,65 @@ module _ {limit : ℕ} {A B : Type 0} {p : Parser A} {P P' : Lang A} (l r : Fixe
 
 -- ---- names and numbers
 
-abbrev HasName : Option TokenKind → Option ℕ → Type 0
-HasName k None = Unit {0}
-HasName k (Some id) = k ≡ Some (kind.Name id)
+-- What stands in one token, whose kind holds it, and what is made of this.
+data Leaf {A B : Type 0} (holding : A → TokenKind) (build : A → Place → B) : B → ℕ → List Spelt → Type 0 where
+  holds : {v : ℕ} {t : Token} (x : A) → t.kind ≡ holding x → Leaf holding build (build x t.place) v (at t v ∷ [])
 
-has_name : (k : Option TokenKind) → HasName k (token_name k)
-has_name (Some (kind.Name id)) = refl
-has_name _ = tt
+abbrev Found : {A : Type 0} → (A → TokenKind) → Option TokenKind → Option A → Type 0
+Found holding k None = Unit {0}
+Found holding k (Some x) = k ≡ Some (holding x)
 
-abbrev HasNumber : Option TokenKind → Option ℤ → Type 0
-HasNumber k None = Unit {0}
-HasNumber k (Some value) = k ≡ Some (kind.Number value)
+module _ {A B : Type 0} (holding : A → TokenKind) (build : A → Place → B) (find : Option TokenKind → Option A) where
+  abbrev Leaves : Lang B
+  Leaves = Part Any (Leaf holding build)
 
-has_number : (k : Option TokenKind) → HasNumber k (token_number k)
-has_number (Some (kind.Number value)) = refl
-has_number _ = tt
+  a_leaf : (limit : ℕ) → ((k : Option TokenKind) → Found holding k (find k)) → ((x : A) → find (Some (holding x)) ≡ Some x) → Exact limit (leaf build find) Leaves Leaves
+  a_leaf limit found finds = record { sound = λ i j n small h. by i j n small (find (kind_ahead i.rest)) (found (kind_ahead i.rest)) h; complete = λ v w n ls rest q. of q rest }
+    where
+      by : (i j : Input) (n : B) → i.level ≤ limit → (o : Option A) → Found holding (kind_ahead i.rest) o → leaf_by build o i ≡ Ok (n, j) → Read limit Leaves n i j
+      by i j n small None s h = absurd (cc)
+      by i j n small (Some x) s h =
+          let a = step (take i) (λ t k. Ok (build x t.place, k)) (n, j) h in
+          let t = took i.rest i.level a.value a.state a.was in
+          let e = ok_pair (build x a.value.place) n a.state j a.goes in
+          let is : a.value.kind ≡ holding x = head_kind i.rest a.state.rest a.value (holding x) t.front s in
+          let R : ℕ → Type 0 = λ z. Leaves i.level (build x a.value.place) z (at a.value i.level ∷ []) (kind_ahead a.state.rest) in
+          let made : Read limit Leaves (build x a.value.place) i a.state =
+          record { spelt = at a.value i.level ∷ []; front = t.front; spells = subst R (sym t.level) (part (holds x is) tt); within = (small, tt); small = omega (arith, t.level) } in
+          let S : Input → Type 0 = λ z. Read limit Leaves (build x a.value.place) i z in
+          let T : B → Type 0 = λ z. Read limit Leaves z i j in
+          subst T e.0 (subst S e.1 made)
+
+      of : {v w : ℕ} {n : B} {ls : List Spelt} {k : Option TokenKind} → Leaves v n w ls k → (rest : List Token) → Follows limit n w ls rest (leaf build find (input (tokens ls ++ rest) v))
+      of (part (holds {v} {t} x h) c) rest = let e : find (Some t.kind) ≡ Some x = ap (λ z. find (Some z)) h ∙ finds x in rw (e, take_ok) comes
 
 pub a_name : (limit : ℕ) → Exact limit name (Part Any NameIs) (Part Any NameIs)
 unfolding name
-a_name limit = record { sound = so; complete = λ v w n ls rest q. of q rest }
+a_name limit = convert to from (a_leaf kind.Name name_at token_name limit found (λ id. refl))
   where
-    by : (i j : Input) (n : Name) → i.level ≤ limit → (o : Option ℕ) → HasName (kind_ahead i.rest) o → name_by o i ≡ Ok (n, j) → Read limit (Part Any NameIs) n i j
-    by i j n small None s h = absurd (cc)
-    by i j n small (Some id) s h =
-        let a = step (take i) (λ t k. Ok (name_at id t.place, k)) (n, j) h in
-        let t = took i.rest i.level a.value a.state a.was in
-        let e = ok_pair (name_at id a.value.place) n a.state j a.goes in
-        let is : IsNameToken id a.value = head_kind i.rest a.state.rest a.value (kind.Name id) t.front s in
-        let R : ℕ → Type 0 = λ z. Part Any NameIs i.level (name_at id a.value.place) z (at a.value i.level ∷ []) (kind_ahead a.state.rest) in
-        let made : Read limit (Part Any NameIs) (name_at id a.value.place) i a.state =
-        record { spelt = at a.value i.level ∷ []; front = t.front; spells = subst R (sym t.level) (part (name_is id is) tt); within = (small, tt); small = omega (arith, t.level) } in
-        let S : Input → Type 0 = λ z. Read limit (Part Any NameIs) (name_at id a.value.place) i z in
-        let T : Name → Type 0 = λ z. Read limit (Part Any NameIs) z i j in
-        subst T e.0 (subst S e.1 made)
+    found : (k : Option TokenKind) → Found kind.Name k (token_name k)
+    found (Some (kind.Name id)) = refl
+    found _ = tt
 
-    so : (i j : Input) (n : Name) → i.level ≤ limit → name i ≡ Ok (n, j) → Read limit (Part Any NameIs) n i j
-    so i j n small h = by i j n small (token_name (kind_ahead i.rest)) (has_name (kind_ahead i.rest)) h
+    to : (v w : ℕ) (n : Name) (ls : List Spelt) (k : Option TokenKind) → Leaves kind.Name name_at token_name v n w ls k → Part Any NameIs v n w ls k
+    to v w n ls k (part (holds id h) c) = part (name_is id h) c
 
-    of : {v w : ℕ} {n : Name} {ls : List Spelt} {k : Option TokenKind} → Part Any NameIs v n w ls k → (rest : List Token) → Follows limit n w ls rest (name (input (tokens ls ++ rest) v))
-    of (part (name_is {v} {t} id h) c) rest = let e : token_name (Some t.kind) ≡ Some id = rw h in rw (e, take_ok) comes
+    from : (v w : ℕ) (n : Name) (ls : List Spelt) (k : Option TokenKind) → Part Any NameIs v n w ls k → Leaves kind.Name name_at token_name v n w ls k
+    from v w n ls k (part (name_is id h) c) = part (holds id h) c
 
 pub a_number : (limit : ℕ) → Exact limit read_number (Part Any NumberIs) (Part Any NumberIs)
 unfolding read_number
-a_number limit = record { sound = so; complete = λ v w n ls rest q. of q rest }
+a_number limit = convert to from (a_leaf kind.Number number_at token_number limit found (λ value. refl))
   where
-    by : (i j : Input) (n : Number) → i.level ≤ limit → (o : Option ℤ) → HasNumber (kind_ahead i.rest) o → number_by o i ≡ Ok (n, j) → Read limit (Part Any NumberIs) n i j
-    by i j n small None s h = absurd (cc)
-    by i j n small (Some value) s h =
-        let a = step (take i) (λ t k. Ok (number_at value t.place, k)) (n, j) h in
-        let t = took i.rest i.level a.value a.state a.was in
-        let e = ok_pair (number_at value a.value.place) n a.state j a.goes in
-        let is : IsNumberToken value a.value = head_kind i.rest a.state.rest a.value (kind.Number value) t.front s in
-        let R : ℕ → Type 0 = λ z. Part Any NumberIs i.level (number_at value a.value.place) z (at a.value i.level ∷ []) (kind_ahead a.state.rest) in
-        let made : Read limit (Part Any NumberIs) (number_at value a.value.place) i a.state =
-        record { spelt = at a.value i.level ∷ []; front = t.front; spells = subst R (sym t.level) (part (number_is value is) tt); within = (small, tt); small = omega (arith, t.level) } in
-        let S : Input → Type 0 = λ z. Read limit (Part Any NumberIs) (number_at value a.value.place) i z in
-        let T : Number → Type 0 = λ z. Read limit (Part Any NumberIs) z i j in
-        subst T e.0 (subst S e.1 made)
+    found : (k : Option TokenKind) → Found kind.Number k (token_number k)
+    found (Some (kind.Number value)) = refl
+    found _ = tt
 
-    so : (i j : Input) (n : Number) → i.level ≤ limit → read_number i ≡ Ok (n, j) → Read limit (Part Any NumberIs) n i j
-    so i j n small h = by i j n small (token_number (kind_ahead i.rest)) (has_number (kind_ahead i.rest)) h
+    to : (v w : ℕ) (n : Number) (ls : List Spelt) (k : Option TokenKind) → Leaves kind.Number number_at token_number v n w ls k → Part Any NumberIs v n w ls k
+    to v w n ls k (part (holds value h) c) = part (number_is value h) c
 
-    of : {v w : ℕ} {n : Number} {ls : List Spelt} {k : Option TokenKind} → Part Any NumberIs v n w ls k → (rest : List Token) → Follows limit n w ls rest (read_number (input (tokens ls ++ rest) v))
-    of (part (number_is {v} {t} value h) c) rest = let e : token_number (Some t.kind) ≡ Some value = rw h in rw (e, take_ok) comes
+    from : (v w : ℕ) (n : Number) (ls : List Spelt) (k : Option TokenKind) → Part Any NumberIs v n w ls k → Leaves kind.Number number_at token_number v n w ls k
+    from v w n ls k (part (number_is value h) c) = part (holds value h) c
 
 -- ---- lists with commas
 

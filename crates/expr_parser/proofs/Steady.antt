@@ -1,15 +1,18 @@
 -- What a parser does up to a token depends on the tokens up to this one alone, and stays so under a greater limit.
 use mathlib.Core.Path.{subst}
 use Rattle.std.proofs.Common.{◌≡◌, ℕ, ℤ, zero, suc, ◌+◌, ◌-◌, ◌≤◌, ◌<◌, Bool, true, false, nat_lt, cond, List, [], ◌∷◌, ◌++◌, length, length-append, Option, Some, None, Ok, Err, refl, sym, ap, arith}
+use Rattle.forec_base.specs.declared.Place.{Place}
 use Rattle.forec_tree.specs.declared.token.Token.{Token}
 use Rattle.forec_tree.specs.declared.token.TokenKind.{TokenKind}
+use Rattle.forec_tree.specs.Spelling.{name_at}
+use Rattle.forec_tree.specs.Parts.{number_at}
 use Rattle.expr_parser.specs.declared.fault.Fault.TheVariants.{Syntax, Deep, OutOfMemory}
 use Rattle.expr_parser.specs.declared.fixed.Fixed.{Fixed}
 use Rattle.expr_parser.specs.declared.fixed.Fixed.TheVariants as fixed
 use Rattle.expr_parser.specs.Input.{Input, input, Parser, Outcome, and_then, ◌>>=◌, pure, refuse, scoped, kind_ahead, take, take_from, raise, raise_from}
 use Rattle.expr_parser.specs.Meaning.{is_fixed, token_name, token_number}
 use Rattle.expr_parser.specs.Reading as reading
-use Rattle.expr_parser.specs.Reading.{next_is, close, enter, name, read_number, name_by, number_by, separated, separated_from}
+use Rattle.expr_parser.specs.Reading.{next_is, close, enter, name, read_number, leaf_by, leaf, separated, separated_from}
 use Rattle.expr_parser.proofs.Spans.{lt_true}
 
 -- tokens that begin with the same one, or none at all
@@ -263,21 +266,20 @@ pub enclosing : {A B E : Type 0} {m : ℕ} {p q : Parser A} (k l : ℕ) → Limi
     → Steady E 1 (reading.enclosed k left right f p) (reading.enclosed l left right f q)
 enclosing k l le left right f a = scope (bind (entered left k l le) (λ t. bind a (λ x. bind (closed right) (λ _. done (f t x)))))
 
+leaf_steady : {A B E : Type 0} (build : A → Place → B) (find : Option TokenKind → Option A) → Steady E 1 (leaf build find) (leaf build find)
+leaf_steady {A} {B} {E} build find = by_kind (λ k. leaf_by build (find k)) (λ k. leaf_by build (find k)) (λ k. by (find k))
+  where
+    by : (o : Option A) → Steady E 1 (leaf_by build o) (leaf_by build o)
+    by (Some x) = bind taken (λ t. done _)
+    by None = refused
+
 pub named : {E : Type 0} → Steady E 1 name name
 unfolding name
-named {E} = by_kind (λ k. name_by (token_name k)) (λ k. name_by (token_name k)) (λ k. by (token_name k))
-  where
-    by : (o : Option ℕ) → Steady E 1 (name_by o) (name_by o)
-    by (Some id) = bind taken (λ t. done _)
-    by None = refused
+named = leaf_steady name_at token_name
 
 pub numbered : {E : Type 0} → Steady E 1 read_number read_number
 unfolding read_number
-numbered {E} = by_kind (λ k. number_by (token_number k)) (λ k. number_by (token_number k)) (λ k. by (token_number k))
-  where
-    by : (o : Option ℤ) → Steady E 1 (number_by o) (number_by o)
-    by (Some value) = bind taken (λ t. done _)
-    by None = refused
+numbered = leaf_steady number_at token_number
 
 -- ---- loops
 

@@ -1,6 +1,7 @@
 -- Where a parser of a single token, of a bracket or of a list with commas refuses.
 use mathlib.Core.Path.{subst}
 use Rattle.std.proofs.Common.{◌≡◌, ℕ, ℤ, pos, zero, suc, ◌+◌, ◌≤◌, ◌⊎◌, inl, inr, Bool, true, false, nat_lt, cond, List, [], ◌∷◌, ◌++◌, length, Option, Some, None, Ok, Err, refl, sym, ◌∙◌, ap, arith}
+use Rattle.forec_base.specs.declared.Place.{Place}
 use Rattle.forec_tree.specs.declared.token.Token.{Token}
 use Rattle.forec_tree.specs.declared.token.TokenKind.{TokenKind}
 use Rattle.forec_tree.specs.declared.token.TokenKind.TheVariants as kind
@@ -13,7 +14,7 @@ use Rattle.expr_parser.specs.declared.fixed.Fixed.TheVariants as fixed
 use Rattle.expr_parser.specs.Input.{Input, input, Parser, and_then, kind_ahead, take, take_from, raise}
 use Rattle.expr_parser.specs.Meaning.{is_fixed, token_name, token_number}
 use Rattle.expr_parser.specs.Reading as reading
-use Rattle.expr_parser.specs.Reading.{close, enter, name, read_number, name_by, number_by, separated, separated_from}
+use Rattle.expr_parser.specs.Reading.{close, enter, name, read_number, leaf_by, leaf, separated, separated_from}
 use Rattle.expr_parser.proofs.Spans.{ok_of}
 use Rattle.expr_parser.proofs.Closers.{kind_of, fixed-kind}
 use Rattle.expr_parser.proofs.Exact.{Lang, Exact, Bind, both, Map, mapped, Scoped, inside, Part, part, Any}
@@ -156,27 +157,27 @@ module _ {limit low : ℕ} where
       le : (v : ℕ) → Least (Up f) (Some (kind_of f)) k v
       le v = let t = made (kind_of f) in record { value = t; last = v + 1; tokens = at t (v + 1) ∷ []; spells = up refl; begins = refl }
 
+  leaf_here : {A B : Type 0} (build : A → Place → B) (find : Option TokenKind → Option A) {P : Lang B} (l : Option TokenKind) {k : Option TokenKind} → find None ≡ None → ((v : ℕ) → Least P l k v)
+      → Viable limit low (leaf build find) P l k
+  leaf_here {A} build find {P} l {k} none le = record { refused = λ i e deep small h. by i e (find (kind_ahead i.rest)) refl h; least = le }
+    where
+      by : (i : Input) (e : Fault) (o : Option A) → find (kind_ahead i.rest) ≡ o → leaf_by build o i ≡ Err e → Refused limit P k i e
+      by i e None s h = refused_here (le i.level) (cc)
+      by i e (Some x) s h = absurd (taken_always find (λ t. build x t.place) i x e none s h)
+
   pub name_here : {k : Option TokenKind} → Viable limit low name (Part Any NameIs) a_name k
   unfolding name
-  name_here {k} = record { refused = λ i e deep small h. by i e (token_name (kind_ahead i.rest)) refl h; least = le }
+  name_here {k} = leaf_here name_at token_name a_name refl le
     where
       le : (v : ℕ) → Least (Part Any NameIs) a_name k v
       le v = let t = made (kind.Name 0) in record { value = name_at 0 t.place; last = v; tokens = at t v ∷ []; spells = part (name_is 0 refl) tt; begins = refl }
 
-      by : (i : Input) (e : Fault) (o : Option ℕ) → token_name (kind_ahead i.rest) ≡ o → name_by o i ≡ Err e → Refused limit (Part Any NameIs) k i e
-      by i e None s h = refused_here (le i.level) (cc)
-      by i e (Some id) s h = absurd (taken_always token_name (λ t. name_at id t.place) i id e refl s h)
-
   pub number_here : {k : Option TokenKind} → Viable limit low read_number (Part Any NumberIs) a_number k
   unfolding read_number
-  number_here {k} = record { refused = λ i e deep small h. by i e (token_number (kind_ahead i.rest)) refl h; least = le }
+  number_here {k} = leaf_here number_at token_number a_number refl le
     where
       le : (v : ℕ) → Least (Part Any NumberIs) a_number k v
       le v = let t = made (kind.Number (pos 1)) in record { value = number_at (pos 1) t.place; last = v; tokens = at t v ∷ []; spells = part (number_is (pos 1) refl) tt; begins = refl }
-
-      by : (i : Input) (e : Fault) (o : Option ℤ) → token_number (kind_ahead i.rest) ≡ o → number_by o i ≡ Err e → Refused limit (Part Any NumberIs) k i e
-      by i e None s h = refused_here (le i.level) (cc)
-      by i e (Some value) s h = absurd (taken_always token_number (λ t. number_at value t.place) i value e refl s h)
 
 -- ---- brackets
 

@@ -1,6 +1,8 @@
 -- Reading an expression, from tokens to the tree. `proofs/` shows that this is the converse of spelling.
 use Rattle.std.specs.Prelude.{ℕ, ℤ, zero, suc, ◌+◌, Bool, if◌then◌else◌, nat_lt, List, [], ◌∷◌, ◌++◌, length, Option, Some, None, Ok, Err}
+use Rattle.forec_base.specs.declared.Place.{Place}
 use Rattle.forec_tree.specs.declared.token.Token.{Token}
+use Rattle.forec_tree.specs.declared.token.TokenKind.{TokenKind}
 use Rattle.forec_tree.specs.declared.tree.Name.{Name}
 use Rattle.forec_tree.specs.declared.tree.Number.{Number}
 use Rattle.forec_tree.specs.Terms as plain
@@ -39,23 +41,21 @@ enclosed limit left right f part = scoped (do
   close right
   pure (f t x))
 
-abbrev pub name_by : Option ℕ → Parser Name
-name_by (Some id) = do
+-- a token that holds something, and what is made of this
+abbrev pub leaf_by : {A B : Type 0} → (A → Place → B) → Option A → Parser B
+leaf_by build (Some x) = do
   t ← take
-  pure (name_at id t.place)
-name_by None = refuse
+  pure (build x t.place)
+leaf_by build None = refuse
+
+abbrev pub leaf : {A B : Type 0} → (A → Place → B) → (Option TokenKind → Option A) → Parser B
+leaf build find = λ i. leaf_by build (find (kind_ahead i.rest)) i
 
 unfoldable pub name : Parser Name
-name = λ i. name_by (token_name (kind_ahead i.rest)) i
-
-abbrev pub number_by : Option ℤ → Parser Number
-number_by (Some value) = do
-  t ← take
-  pure (number_at value t.place)
-number_by None = refuse
+name = leaf name_at token_name
 
 unfoldable pub read_number : Parser Number
-read_number = λ i. number_by (token_number (kind_ahead i.rest)) i
+read_number = leaf number_at token_number
 
 -- One or more parts, with a comma between each two. The count is that of the turns, one for each token that is left.
 unfoldable pub separated_from : {A : Type 0} → Parser A → ℕ → List A → Parser (List A)

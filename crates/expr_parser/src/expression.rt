@@ -140,6 +140,27 @@ fn named(alloc: Global, tokens: &mut Tokens<'_>, depth: usize) -> Result<Box<Exp
     }
 }
 
+/// An expression between two brackets.
+#[cycle(expr)]
+fn enclosed(
+    alloc: Global,
+    tokens: &mut Tokens<'_>,
+    depth: usize,
+    left: Fixed,
+    right: Fixed,
+) -> Result<Box<Expr>, Fault>
+    ensures read { Reads term_in (spec.enclosed max_level left right (λ _ inner. inner)
+        (spec.read_expression max_level depth 1) tokens.old) result tokens.new }
+    ensures stands { IfErr result (λ e. RefusesAt e tokens.new) }
+{
+    let outer = tokens.level();
+    tokens.enter(left)?;
+    let inner = expr(alloc, tokens, depth, 1)?;
+    tokens.close(right)?;
+    tokens.leave(outer);
+    Ok(inner)
+}
+
 /// An expression between round brackets.
 #[cycle(expr)]
 #[tactic(auto, unfolding(crate::specs::Reading::bracketed))]
@@ -148,12 +169,7 @@ pub fn bracketed(alloc: Global, tokens: &mut Tokens<'_>, depth: usize) -> Result
         result tokens.new }
     ensures stands { IfErr result (λ e. RefusesAt e tokens.new) }
 {
-    let outer = tokens.level();
-    tokens.enter(Fixed::LeftRound)?;
-    let inner = expr(alloc, tokens, depth, 1)?;
-    tokens.close(Fixed::RightRound)?;
-    tokens.leave(outer);
-    Ok(inner)
+    enclosed(alloc, tokens, depth, Fixed::LeftRound, Fixed::RightRound)
 }
 
 /// An index, with its square brackets.
@@ -164,12 +180,7 @@ pub fn indexed(alloc: Global, tokens: &mut Tokens<'_>, depth: usize) -> Result<B
         result tokens.new }
     ensures stands { IfErr result (λ e. RefusesAt e tokens.new) }
 {
-    let outer = tokens.level();
-    tokens.enter(Fixed::LeftSquare)?;
-    let index = expr(alloc, tokens, depth, 1)?;
-    tokens.close(Fixed::RightSquare)?;
-    tokens.leave(outer);
-    Ok(index)
+    enclosed(alloc, tokens, depth, Fixed::LeftSquare, Fixed::RightSquare)
 }
 
 /// The arguments of a call, with their brackets.

@@ -3,7 +3,7 @@
 use std::alloc::AllocError;
 
 /// Why a rule of the grammar stops; `left` is the number of tokens from the refused one on.
-#[derive(Clone, Copy, Debug, Drop)]
+#[derive(Clone, Copy, Drop)]
 pub enum Fault {
     Syntax { left: usize },
     Deep { left: usize },

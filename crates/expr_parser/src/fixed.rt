@@ -6,7 +6,7 @@ ghost use Rattle.expr_parser.specs.Meaning as spec;
 use forec_tree::{Mark, TokenKind, Word};
 
 /// A token that a rule asks for by itself.
-#[derive(Clone, Copy, Debug)]
+#[derive(Clone, Copy)]
 pub enum Fixed {
     LeftRound,
     RightRound,

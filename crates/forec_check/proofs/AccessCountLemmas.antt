@@ -15,10 +15,10 @@ use Rattle.forec_check.specs.AccessScan.{TextAccess, AccessScan, no_access, scan
 use Rattle.forec_tree.specs.Faults.{is_in, called_in, functions_called}
 use Rattle.forec_tree.proofs.Fixed.{IsLocal}
 use Rattle.loop_check.specs.Known.{list_at}
-use Rattle.forec_check.specs.declared.walk.effects.Effect.{Effect}
-use Rattle.forec_check.specs.declared.walk.effects.Effect.TheVariants as effect
+use Rattle.program_walk.specs.declared.walk.effects.Effect.{Effect}
+use Rattle.program_walk.specs.declared.walk.effects.Effect.TheVariants as effect
 use Rattle.forec_check.specs.Early.{effect_calls, function_calls}
-use Rattle.forec_check.specs.Walk.{effects_of, finding_effects}
+use Rattle.program_walk.specs.Walk.{effects_of, finding_effects}
 use Rattle.forec_check.proofs.Recursion.{effect_calls-append, calls_is, calls_at}
 use Rattle.forec_check.proofs.Started.{in_left, in_right}
 use Rattle.forec_check.specs.AccessCounts.{AlikeUpToTwo, capped_access, scan_effect, scan_effects, capped_step}

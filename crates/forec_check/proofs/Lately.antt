@@ -8,8 +8,8 @@ use Rattle.forec_tree.specs.Faults.{Member, here, later, IsLeast, IsEarly, IsFau
 use Rattle.forec_tree.specs.Faults as of_tree
 use Rattle.forec_tree.specs.Rules.{fault_if, is_plain}
 use Rattle.forec_tree.specs.ThreadTree.{thread_tree, count_naming}
-use Rattle.forec_check.specs.Least.{least_from}
-use Rattle.forec_check.proofs.LeastLaws.{least-append}
+use Rattle.fault_order.specs.Least.{least_from}
+use Rattle.fault_order.proofs.LeastLaws.{least-append}
 use Rattle.forec_check.specs.Loops.{item_loops, all_loops, loops_faults}
 use Rattle.forec_check.specs.Early.{IsLeastOrNone}
 use Rattle.forec_check.specs.AccessScan.{instances_of, program_namings}

@@ -1,14 +1,4 @@
-pub mod LeastLaws
 pub mod AccessLaws
-pub mod DeclarationLaws
-pub mod UseRules
-pub mod Texts
-pub mod WalkLemmas
-pub mod Parts
-pub mod Statements
-pub mod ScopeLaws
-pub mod WalkBranches
-pub mod ItemRules
 pub mod Recursion
 pub mod Started
 pub mod Acyclic

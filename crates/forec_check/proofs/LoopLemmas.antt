@@ -13,8 +13,8 @@ use Rattle.forec_tree.specs.Rules.{fault_if, is_none, endless, loop_place}
 use Rattle.forec_tree.specs.Turns.{inferred}
 use Rattle.forec_tree.specs.Pauses.{certain}
 use Rattle.forec_tree.specs.declared.tree.Number.{Number}
-use Rattle.forec_check.specs.Least.{least_from}
-use Rattle.forec_check.proofs.LeastLaws.{least-append}
+use Rattle.fault_order.specs.Least.{least_from}
+use Rattle.fault_order.proofs.LeastLaws.{least-append}
 use Rattle.forec_tree.proofs.Rows.{of_kind}
 use Rattle.forec_check.specs.Loops.{loops_in, item_loops, all_loops, loops_faults}
 

@@ -16,9 +16,9 @@ use Rattle.forec_tree.specs.Rules.{fault_if, is_plain, is_none}
 use Rattle.forec_tree.specs.Pauses.{within, find_function}
 use Rattle.forec_check.specs.AccessScan.{TextAccess, AccessScan, no_access, scan_start, accessing_instances, as_access, body_access, access_step, instances_of, program_namings}
 use Rattle.forec_tree.specs.Faults.{is_in, Leads, functions_called, ReachesByCalls, start_name}
-use Rattle.forec_check.specs.Least.{least_from}
+use Rattle.fault_order.specs.Least.{least_from}
 use Rattle.forec_tree.proofs.Fixed.{IsLocal}
-use Rattle.forec_check.proofs.LeastLaws.{least-append}
+use Rattle.fault_order.proofs.LeastLaws.{least-append}
 use Rattle.loop_check.specs.Graph.{IsOrder}
 use Rattle.loop_check.specs.Known.{Read, is_function}
 use Rattle.loop_check.proofs.Ordered.{is_in_snoc}
@@ -26,10 +26,11 @@ use Rattle.loop_check.proofs.Settled.{all_ordered}
 use Rattle.loop_check.specs.Numbered.{put_entry}
 use Rattle.forec_check.proofs.TableLemmas.{settles_by}
 use Rattle.loop_check.proofs.Reading.{leads_same}
-use Rattle.forec_check.specs.declared.walk.effects.Effect.{Effect}
+use Rattle.program_walk.specs.declared.walk.effects.Effect.{Effect}
 use Rattle.forec_check.specs.declared.instances.access_count.AccessCount.{AccessCount}
-use Rattle.forec_check.specs.Walk.{effects_of, item_effects}
-use Rattle.forec_check.specs.Early.{function_calls, improves}
+use Rattle.program_walk.specs.Walk.{effects_of, item_effects}
+use Rattle.fault_order.specs.Least.{improves}
+use Rattle.forec_check.specs.Early.{function_calls}
 use Rattle.forec_check.specs.AccessCounts.{capped_access, access_of, no_access_count, called_access, effects_in, scan_effects, capped_step, access_value, Orders, access_fault, access_faults}
 use Rattle.forec_check.proofs.Recursion.{graph_is}
 use Rattle.forec_check.proofs.AccessCountLemmas.{effects_tell, capped_local, capped_within, two_instances, counted, capped_twice}

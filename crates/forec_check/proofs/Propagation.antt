@@ -13,7 +13,7 @@ use Rattle.loop_check.proofs.Ordered.{place_of}
 use Rattle.forec_check.specs.declared.instances.call_sites.CallSites.{CallSites}
 use Rattle.forec_check.specs.declared.instances.call_sites.CallSites.TheVariants as sites
 use Rattle.forec_check.specs.declared.instances.propagate.SiteTables.{SiteTables}
-use Rattle.forec_check.specs.declared.walk.effects.Effect.{Effect}
+use Rattle.program_walk.specs.declared.walk.effects.Effect.{Effect}
 use Rattle.forec_check.specs.declared.instances.single.SingleAccess.{SingleAccess}
 use Rattle.forec_check.specs.AccessCounts.{Orders, effects_in}
 use Rattle.forec_check.specs.CallSites.{SiteMaps, InstanceView, sites_at, opened_sites, inside_after, Holds, MovesNothing, site_maps, outermost, SameTables, HoldsEffects, body_settled, AllSettled}

@@ -19,19 +19,20 @@ use Rattle.forec_tree.specs.Findings.{Finding}
 use Rattle.forec_tree.specs.Rules.{fault_if, is_none}
 use Rattle.forec_tree.specs.Pauses.{find_function}
 use Rattle.forec_tree.specs.Faults.{is_in, Leads, at_once, through, ReachesByCalls, functions_called, called_in, in_function, item_named, Member, here, later, IsLeast, Recursive, IsEarly, is_before, text_faults}
-use Rattle.forec_check.specs.Least.{lesser, least_from}
-use Rattle.forec_check.proofs.LeastLaws.{before_trans, before_self, before_flip, lesser_none, lesser_kept, lesser_is, none_least, is_least}
+use Rattle.fault_order.specs.Least.{lesser, least_from}
+use Rattle.fault_order.proofs.LeastLaws.{before_trans, before_self, before_flip, lesser_none, lesser_kept, lesser_is, none_least, is_least}
 use Rattle.loop_check.specs.Graph.{IsOrder, FunctionsCall}
 use Rattle.loop_check.specs.Known.{Read, list_at, IsListOf}
 use Rattle.loop_check.proofs.IndexLemmas.{split}
 use Rattle.loop_check.proofs.Ordered.{place_of, is_in_at}
 use Rattle.loop_check.proofs.Settled.{front_at, get_take}
 use Rattle.loop_check.proofs.Reading.{next_of, leads_same}
-use Rattle.forec_check.specs.declared.walk.effects.Effect.{Effect}
-use Rattle.forec_check.specs.declared.walk.effects.Effect.TheVariants as effect
-use Rattle.forec_check.specs.Walk.{as_list, effect_of, effects_of, finding_effects}
-use Rattle.forec_check.specs.Items.{in_item}
-use Rattle.forec_check.specs.Early.{effect_calls, function_calls, improves, IsLeastOrNone, RecursiveIn, EarlyTo}
+use Rattle.program_walk.specs.declared.walk.effects.Effect.{Effect}
+use Rattle.program_walk.specs.declared.walk.effects.Effect.TheVariants as effect
+use Rattle.program_walk.specs.Walk.{as_list, effect_of, effects_of, finding_effects}
+use Rattle.program_walk.specs.Items.{in_item}
+use Rattle.fault_order.specs.Least.{improves}
+use Rattle.forec_check.specs.Early.{effect_calls, function_calls, IsLeastOrNone, RecursiveIn, EarlyTo}
 
 -- ---- the calls of effects
 

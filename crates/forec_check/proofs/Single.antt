@@ -11,13 +11,13 @@ use Rattle.forec_tree.specs.Faults.{is_in, Leads, at_once, through, functions_ca
 use Rattle.forec_tree.proofs.Reach.{append}
 use Rattle.loop_check.specs.Known.{list_at}
 use Rattle.loop_check.proofs.IndexLemmas.{split}
-use Rattle.forec_check.specs.declared.walk.effects.Effect.{Effect}
-use Rattle.forec_check.specs.declared.walk.effects.Effect.TheVariants as effect
+use Rattle.program_walk.specs.declared.walk.effects.Effect.{Effect}
+use Rattle.program_walk.specs.declared.walk.effects.Effect.TheVariants as effect
 use Rattle.forec_check.specs.declared.instances.call_sites.CallSite.{CallSite}
 use Rattle.forec_check.specs.declared.instances.call_sites.CallSites.{CallSites}
 use Rattle.forec_check.specs.declared.instances.call_sites.CallSites.TheVariants as sites
 use Rattle.forec_check.specs.Early.{effect_calls, function_calls}
-use Rattle.forec_check.specs.Walk.{effects_of}
+use Rattle.program_walk.specs.Walk.{effects_of}
 use Rattle.forec_check.specs.AccessCounts.{effects_in, scan_effect, scan_effects}
 use Rattle.forec_check.specs.CallSites.{same_call_site, is_within, opened_sites, SiteMaps, InstanceView, view_after_block, inside_after, Holds, HoldsEffects, body_settled, start_site}
 use Rattle.forec_check.proofs.Recursion.{calls_is, calls_at}

@@ -16,9 +16,9 @@ use Rattle.forec_tree.specs.Pauses.{started_names, all_started, perhaps_started,
 use Rattle.forec_tree.specs.Faults.{is_in, called_in}
 use Rattle.forec_tree.proofs.FindingFaults.{findings-append}
 use Rattle.loop_check.proofs.IndexLemmas.{split}
-use Rattle.forec_check.specs.Walk.{effects_of}
+use Rattle.program_walk.specs.Walk.{effects_of}
 use Rattle.forec_check.specs.Early.{effect_calls}
-use Rattle.forec_check.proofs.WalkLemmas.{effects-append}
+use Rattle.program_walk.proofs.WalkLemmas.{effects-append}
 use Rattle.forec_check.proofs.Recursion.{effect_calls-append, calls_is}
 
 pub nil_left : {A : Type 0} (xs ys : List A) → xs ++ ys ≡ [] → xs ≡ []

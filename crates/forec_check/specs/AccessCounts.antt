@@ -9,11 +9,11 @@ use Rattle.forec_tree.specs.declared.fault.Fault.{Fault}
 use Rattle.forec_tree.specs.declared.rule.TheConstants as rule
 use Rattle.loop_check.specs.Known.{is_function}
 use Rattle.forec_check.specs.Table.{Settles}
-use Rattle.forec_check.specs.Walk.{effects_of}
+use Rattle.program_walk.specs.Walk.{effects_of}
 use Rattle.forec_check.specs.declared.instances.access_count.AccessTally.{AccessTally}
 use Rattle.forec_tree.specs.Terms.{Text, PlainItem, IsGlobal, IsFunction, PlainFunction}
-use Rattle.forec_check.specs.declared.walk.effects.Effect.{Effect}
-use Rattle.forec_check.specs.declared.walk.effects.Effect.TheVariants as effect
+use Rattle.program_walk.specs.declared.walk.effects.Effect.{Effect}
+use Rattle.program_walk.specs.declared.walk.effects.Effect.TheVariants as effect
 use Rattle.forec_check.specs.declared.instances.access_count.AccessCount.{AccessCount}
 
 -- counts past two are all one

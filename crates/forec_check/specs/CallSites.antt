@@ -2,8 +2,8 @@
 use Rattle.std.specs.Prelude.{ℕ, suc, ◌≡◌, ◌==◌, ◌<◌, ◌≢◌, Bool, true, false, ◌&&◌, nat_lt, Option, Some, None, List, [], ◌∷◌, reverse, length, slice_index_or}
 use Rattle.forec_tree.specs.Terms.{Text}
 use Rattle.forec_tree.specs.Pauses.{find_function}
-use Rattle.forec_check.specs.declared.walk.effects.Effect.{Effect}
-use Rattle.forec_check.specs.declared.walk.effects.Effect.TheVariants as effect
+use Rattle.program_walk.specs.declared.walk.effects.Effect.{Effect}
+use Rattle.program_walk.specs.declared.walk.effects.Effect.TheVariants as effect
 use Rattle.forec_check.specs.declared.instances.call_sites.CallSite.{CallSite}
 use Rattle.forec_check.specs.declared.instances.call_sites.CallSites.{CallSites}
 use Rattle.forec_check.specs.declared.instances.call_sites.CallSites.TheVariants as sites

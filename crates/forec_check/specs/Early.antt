@@ -1,15 +1,15 @@
 -- The rules that ask for no thread, with the chains of calls.
-use Rattle.std.specs.Prelude.{◌≡◌, ◌⊎◌, ℕ, Bool, true, Option, Some, None, List, [], ◌∷◌}
+use Rattle.std.specs.Prelude.{◌≡◌, ◌⊎◌, ℕ, Option, Some, None, List, [], ◌∷◌}
 use Rattle.forec_tree.specs.declared.fault.Fault.{Fault}
 use Rattle.forec_tree.specs.declared.rule.TheConstants as rule
 use Rattle.forec_tree.specs.Terms.{Text, PlainFunction, PlainItem, IsFunction}
 use Rattle.forec_tree.specs.Scopes.{find_item}
-use Rattle.forec_tree.specs.Faults.{Member, ReachesByCalls, IsLeast, is_before, text_faults, called_in, in_function}
+use Rattle.forec_tree.specs.Faults.{Member, ReachesByCalls, IsLeast, text_faults, called_in, in_function}
 use Rattle.loop_check.specs.declared.table.Calls.{Calls}
 use Rattle.loop_check.specs.Graph.{callees}
 use Rattle.loop_check.specs.Known.{Read}
-use Rattle.forec_check.specs.declared.walk.effects.Effect.{Effect}
-use Rattle.forec_check.specs.declared.walk.effects.Effect.TheVariants as effect
+use Rattle.program_walk.specs.declared.walk.effects.Effect.{Effect}
+use Rattle.program_walk.specs.declared.walk.effects.Effect.TheVariants as effect
 
 -- the functions that effects call or start
 abbrev pub effect_calls : List Effect → List ℕ
@@ -27,11 +27,6 @@ function_calls text f = called_in (in_function text f)
 -- the calls as they are kept: all functions of a text, and those that each calls or starts
 abbrev pub KnowsCalls : Text → Calls → Type 0
 KnowsCalls text calls = Read (function_calls text) text calls.functions.items (callees calls.lists.items)
-
--- a fault is less than the one kept, if any
-abbrev pub improves : Option Fault → Fault → Bool
-improves None f = true
-improves (Some kept) f = is_before f kept
 
 -- none of a set, or its least
 abbrev pub IsLeastOrNone : Option Fault → (Fault → Type 0) → Type 0

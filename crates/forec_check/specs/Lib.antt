@@ -1,10 +1,4 @@
-pub mod Least
 pub mod AccessScan
-pub mod Declarations
-pub mod Views
-pub mod Walk
-pub mod WalkParts
-pub mod Items
 pub mod Early
 pub mod Loops
 pub mod Table

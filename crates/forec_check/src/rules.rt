@@ -1,15 +1,7 @@
 //! The rules of the language, and the least fault of a program.
 //!
-//! Where each rule is judged:
+//! Where each rule is judged: 6, 10 and 20 here, and all others by `program_walk`.
 //!
-//! - `start`: 3, there is no `main`.
-//! - `uses`: 1, a name isn't declared; 4, is of the wrong kind; 5, a call has the wrong number of arguments; 7, `main` is called;
-//!   8, an input is assigned; 9, a constant is assigned; 11, an int function names a global; 13, it calls a void function.
-//! - `declarations`: 2, a name is declared twice; 17, an array's length is out of range; 18, it has too many values; 19, a loop's bound
-//!   is out of range; 21, a name is too long.
-//! - `items`: 15, an int function may end without a value; 16, a combine function has the wrong form; 22, too many inputs or outputs;
-//!   23, too many parameters; 24, too many functions; and 1, 2, 17, 18 and 21 at globals and at names of functions.
-//! - `walk/statements`: 12, an int function takes time; 14, a void function returns a value.
 //! - `recursion`: 6, a function calls itself.
 //! - `plain_globals`: 10, two thread instances name a plain variable.
 //! - `loops`: 20, a loop might never end its tick.
@@ -17,34 +9,26 @@
 ghost use Rattle.std.specs.Prelude.{◌≡◌, ◌++◌, [], None, Some, map, IfOk, OnOk};
 ghost use Rattle.forec_tree.specs.Plain as plain;
 ghost use Rattle.forec_tree.specs.Faults.{IsEarly, IsFault, start_name};
-ghost use Rattle.forec_check.specs.Least.{least_from};
+ghost use Rattle.fault_order.specs.Least.{least_from};
 ghost use Rattle.loop_check.specs.Views.{indexed_text};
-ghost use Rattle.forec_check.specs.Views.{program_text, program_names};
-ghost use Rattle.forec_check.specs.Walk.{item_effects, effects_lists};
+ghost use Rattle.program_walk.specs.Views.{program_text, program_names};
+ghost use Rattle.program_walk.specs.Walk.{item_effects, effects_lists};
 ghost use Rattle.forec_check.specs.Early.{IsLeastOrNone, KnowsCalls};
 ghost use Rattle.forec_check.specs.Loops.{all_loops, loops_faults};
 ghost use Rattle.forec_check.specs.AccessCounts.{access_faults, Orders};
 
-pub mod declarations;
-pub mod items;
-pub mod least;
 pub mod loops;
 pub mod plain_globals;
 pub mod recursion;
-pub mod start;
-pub mod uses;
 
 use crate::instances::bodies::Bodies;
 use crate::rules::loops::judge_loops;
 use crate::rules::plain_globals::judge_plain_globals;
 use crate::rules::recursion::{call_graph, judge_recursion};
-use crate::rules::start::start_name;
-use crate::symbols::Symbols;
-use crate::walk::effects::Effect;
-use crate::walk::{ProgramNotes, walk_program};
 use forec_base::{Labels, OutOfMemory};
 use forec_tree::{Fault, Item, Program};
 use loop_check::{Calls, Index, Pauses, order};
+use program_walk::{Effect, ProgramNotes, Symbols, start_name, walk_program};
 use std::alloc::Global;
 
 fn judge_accesses(

@@ -8,10 +8,9 @@ ghost use Rattle.forec_check.specs.Instances as count;
 
 use crate::checked::Checked;
 use crate::instances::instances;
-use crate::rules::items::{is_input, output_count};
-use crate::rules::start::start_name;
 use forec_base::{Labels, MAX_OUTPUTS, OutOfMemory};
 use forec_tree::Item;
+use program_walk::{is_input, output_count, start_name};
 use std::alloc::Global;
 
 impl<'n> Checked<'n> {

@@ -12,18 +12,18 @@ use Rattle.command_words.specs.declared.request.Budget.TheVariants as budget
 use Rattle.tick_bounds.specs.Bound.{worst_case}
 use Rattle.tick_bounds.specs.Capped.{as_budget}
 use Rattle.text_verdict.specs.declared.counts.Counts.{Counts}
-use Rattle.trace_runs.specs.Led.{IsTold, RunsRows}
-use Rattle.trace_runs.specs.Prints.{Prints, PrintsReport}
-use Rattle.trace_runs.specs.Report.{Report, trace_report}
-use Rattle.trace_runs.specs.Workload.{ticked_report}
-use Rattle.trace_runs.specs.declared.status.Status.{Status}
-use Rattle.trace_runs.specs.declared.status.Status.TheVariants as status
-use Rattle.trace_runs.proofs.Printing.{prints_as, prints_nothing}
+use Rattle.trace_ticks.specs.Led.{IsTold, RunsRows}
+use Rattle.trace_ticks.specs.Prints.{Prints, PrintsReport}
+use Rattle.trace_ticks.specs.Report.{Report, trace_report}
+use Rattle.trace_ticks.specs.Workload.{ticked_report}
+use Rattle.trace_ticks.specs.declared.status.Status.{Status}
+use Rattle.trace_ticks.specs.declared.status.Status.TheVariants as status
+use Rattle.trace_ticks.proofs.Printing.{prints_as, prints_nothing}
 use Rattle.forec_base.specs.Outside.{Fell}
-use Rattle.trace_runs.specs.Ends.{Wanted, ReadFor}
-use Rattle.trace_runs.specs.KernelNames.{run_format}
-use Rattle.trace_runs.specs.declared.format.Telling.{Telling}
-use Rattle.trace_runs.specs.declared.format.Telling.TheVariants as telling
+use Rattle.trace_ticks.specs.Ends.{Wanted, ReadFor}
+use Rattle.trace_ticks.specs.KernelNames.{run_format}
+use Rattle.trace_ticks.specs.declared.format.Telling.{Telling}
+use Rattle.trace_ticks.specs.declared.format.Telling.TheVariants as telling
 use Rattle.forec_engine.specs.Answers.{AnswersAccepted}
 use Rattle.forec_engine.specs.Ends.{run_with}
 use Rattle.command_words.specs.declared.request.Budget.{Budget}

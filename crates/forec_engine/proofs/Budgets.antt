@@ -1,7 +1,7 @@
 -- With a budget of at least the worst case no report says that a run is over.
 use Rattle.std.proofs.Common.{◌≡◌, ◌≢◌, ◌≤◌, ℕ, ℤ, nat_lt, nat_le, Bool, true, false, cond, if◌then◌else◌, List, [], ◌∷◌, map, length, Option, Some, None, replicate, refl, sym, ap, subst, ◌∙◌, arith}
 use Rattle.forec_base.specs.declared.limits.TheConstants.{MAX_BUDGET, MAX_ROWS}
-use Rattle.trace_runs.specs.declared.generated.TheConstants.{WORKLOAD_TICKS}
+use Rattle.trace_ticks.specs.declared.generated.TheConstants.{WORKLOAD_TICKS}
 use Rattle.forec_kernel.specs.Shapes.{PlainKernel}
 use Rattle.forec_kernel.specs.Ticks.{Tick, run_of}
 use Rattle.forec_kernel.specs.declared.shape.Outcome.{Outcome}
@@ -20,14 +20,14 @@ use Rattle.text_verdict.specs.Laws.{AcceptedTextsAreFormed, AcceptedTextsArePace
 use Rattle.text_verdict.specs.declared.counts.Counts.{Counts}
 use Rattle.trace_rows.specs.Trace.{TraceEnd, trace_of}
 use Rattle.trace_rows.specs.declared.fault.RowFault.{RowFault}
-use Rattle.trace_runs.specs.KernelNames.{input_names, run_format}
-use Rattle.trace_runs.specs.declared.format.Format.{Format}
-use Rattle.trace_runs.specs.declared.format.Telling.{Telling}
-use Rattle.trace_runs.specs.declared.format.Telling.TheVariants as telling
-use Rattle.trace_runs.specs.Report.{Report, last_outcome, end_of_trace, ending, trace_report}
-use Rattle.trace_runs.specs.Workload.{ticks_report, ticked_report, workload_ticks, zero_row}
-use Rattle.trace_runs.specs.declared.status.Status.{Status}
-use Rattle.trace_runs.specs.declared.status.Status.TheVariants as status
+use Rattle.trace_ticks.specs.KernelNames.{input_names, run_format}
+use Rattle.trace_ticks.specs.declared.format.Format.{Format}
+use Rattle.trace_ticks.specs.declared.format.Telling.{Telling}
+use Rattle.trace_ticks.specs.declared.format.Telling.TheVariants as telling
+use Rattle.trace_ticks.specs.Report.{Report, last_outcome, end_of_trace, ending, trace_report}
+use Rattle.trace_ticks.specs.Workload.{ticks_report, ticked_report, workload_ticks, zero_row}
+use Rattle.trace_ticks.specs.declared.status.Status.{Status}
+use Rattle.trace_ticks.specs.declared.status.Status.TheVariants as status
 use Rattle.forec_engine.specs.Budgets.{budget_for, with_budget, Covers}
 use Rattle.forec_engine.specs.Folds.{kernel_for}
 use Rattle.forec_engine.specs.Logs.{LogReport, Of_boundless, Of_misplaced_run, Of_logged, AcceptedLog}
@@ -40,7 +40,7 @@ use Rattle.forec_engine.specs.Laws.{CoverTheirKernel, CoveredNeverOver, BoundCov
 use Rattle.forec_engine.specs.Farms.{too_long, farmed, worse, worst, farm_report, FarmedReport}
 use Rattle.forec_engine.specs.declared.farm_traces.TheConstants.{FARM_ROWS}
 use Rattle.forec_base.specs.declared.limits.TheConstants.{MAX_TEXT_BYTES}
-use Rattle.trace_runs.specs.StatusNumbers.{status_number}
+use Rattle.trace_ticks.specs.StatusNumbers.{status_number}
 use Rattle.forec_engine.specs.Placing.{misplacing, unless_misplaced, workload_report}
 use Rattle.forec_engine.proofs.DumpLemmas.{dump_never}
 use Rattle.forec_engine.proofs.Reports.{some_same, name_same, command_same, threads_same, running_same, never_text, farm_budget_same, never_farm, never_workload, text_no_log, workload_no_log, farm_no_log, log_running_same, text_no_replay, workload_no_replay, farm_no_replay, log_no_replay, replay_budget_same}

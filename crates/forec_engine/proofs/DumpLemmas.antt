@@ -10,11 +10,11 @@ use Rattle.dump_report.specs.Told.{ToldReport, dump_report, refused_long}
 use Rattle.dump_report.specs.declared.status.DumpStatus.{DumpStatus}
 use Rattle.dump_report.specs.declared.status.DumpStatus.TheVariants as dump
 use Rattle.text_verdict.specs.declared.refusal.Refusal.TheVariants as why
-use Rattle.trace_runs.specs.Prints.{Prints, PrintsReport}
-use Rattle.trace_runs.specs.Report.{Report}
-use Rattle.trace_runs.specs.declared.status.Status.{Status}
-use Rattle.trace_runs.specs.declared.status.Status.TheVariants as status
-use Rattle.trace_runs.proofs.Printing.{prints_all, prints_front, prints_nothing, prints_unread, prints_as, told_is}
+use Rattle.trace_ticks.specs.Prints.{Prints, PrintsReport}
+use Rattle.trace_ticks.specs.Report.{Report}
+use Rattle.trace_ticks.specs.declared.status.Status.{Status}
+use Rattle.trace_ticks.specs.declared.status.Status.TheVariants as status
+use Rattle.trace_ticks.proofs.Printing.{prints_all, prints_front, prints_nothing, prints_unread, prints_as, told_is}
 use Rattle.forec_engine.specs.Commands.{refused}
 use Rattle.forec_engine.specs.Dumps.{status_of_dump, dump_printed, DumpReport}
 

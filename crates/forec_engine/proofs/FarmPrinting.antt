@@ -17,17 +17,17 @@ use Rattle.trace_farm.specs.declared.farm_report.FarmReport.{FarmReport}
 use Rattle.trace_rows.specs.Trace.{TraceEnd, trace_of}
 use Rattle.trace_rows.specs.declared.fault.RowFault.{RowFault}
 use Rattle.whole_writes.specs.Calls.{AppendsFront}
-use Rattle.trace_runs.specs.Ends.{IsOwn}
-use Rattle.trace_runs.specs.KernelNames.{input_names, run_format}
-use Rattle.trace_runs.specs.declared.format.Format.{Format}
-use Rattle.trace_runs.specs.declared.format.Telling.TheVariants as telling
-use Rattle.trace_runs.specs.Prints.{Prints, PrintsReport}
-use Rattle.trace_runs.specs.Report.{Report, last_outcome, end_of_trace, ending, trace_report}
-use Rattle.trace_runs.specs.StatusNumbers.{status_number}
-use Rattle.trace_runs.specs.declared.status.Status.{Status}
-use Rattle.trace_runs.specs.declared.status.Status.TheVariants as status
-use Rattle.trace_runs.proofs.Printing.{prints_all, prints_front, prints_nothing, prints_as}
-use Rattle.trace_runs.proofs.Told.{some_map}
+use Rattle.trace_ticks.specs.Ends.{IsOwn}
+use Rattle.trace_ticks.specs.KernelNames.{input_names, run_format}
+use Rattle.trace_ticks.specs.declared.format.Format.{Format}
+use Rattle.trace_ticks.specs.declared.format.Telling.TheVariants as telling
+use Rattle.trace_ticks.specs.Prints.{Prints, PrintsReport}
+use Rattle.trace_ticks.specs.Report.{Report, last_outcome, end_of_trace, ending, trace_report}
+use Rattle.trace_ticks.specs.StatusNumbers.{status_number}
+use Rattle.trace_ticks.specs.declared.status.Status.{Status}
+use Rattle.trace_ticks.specs.declared.status.Status.TheVariants as status
+use Rattle.trace_ticks.proofs.Printing.{prints_all, prints_front, prints_nothing, prints_as}
+use Rattle.trace_ticks.proofs.Told.{some_map}
 use Rattle.forec_engine.specs.Budgets.{budget_for, boundless, with_budget, IsBoundless}
 use Rattle.forec_engine.specs.Commands.{Of_refusal, Of_accepted, TextReport, refused}
 use Rattle.forec_engine.specs.Ends.{AcceptedSo}

@@ -7,9 +7,9 @@ use Rattle.std.specs.Simd.Lanes.{zip2}
 use Rattle.forec_base.specs.declared.limits.TheConstants.{MAX_TEXT_BYTES}
 use Rattle.forec_kernel.specs.Shapes.{PlainKernel}
 use Rattle.trace_farm.specs.Farm.{NumberedReport, with_number}
-use Rattle.trace_runs.specs.KernelNames.{run_format}
-use Rattle.trace_runs.specs.Report.{Report, trace_report}
-use Rattle.trace_runs.specs.declared.format.Telling.TheVariants as telling
+use Rattle.trace_ticks.specs.KernelNames.{run_format}
+use Rattle.trace_ticks.specs.Report.{Report, trace_report}
+use Rattle.trace_ticks.specs.declared.format.Telling.TheVariants as telling
 use Rattle.forec_engine.specs.Farms.{too_long, farmed, AreTextsOf}
 use Rattle.forec_engine.specs.Farming.{IsReadOf, AreRead, told_as, picked, reports_of}
 use Rattle.forec_engine.specs.declared.farm_traces.TheConstants.{FARM_ROWS}

@@ -4,10 +4,10 @@ use Rattle.std.proofs.lemmas.Bool.{leb-true, leb-false}
 use Rattle.std.proofs.lemmas.List.Elements.{All-contains}
 use Rattle.rayon.specs.Lists.{IsGreatest}
 use Rattle.rayon.proofs.ToStd.{IsGreatest-All}
-use Rattle.trace_runs.specs.Report.{Report}
-use Rattle.trace_runs.specs.StatusNumbers.{status_number}
-use Rattle.trace_runs.specs.declared.status.Status.{Status}
-use Rattle.trace_runs.specs.declared.status.Status.TheVariants as status
+use Rattle.trace_ticks.specs.Report.{Report}
+use Rattle.trace_ticks.specs.StatusNumbers.{status_number}
+use Rattle.trace_ticks.specs.declared.status.Status.{Status}
+use Rattle.trace_ticks.specs.declared.status.Status.TheVariants as status
 use Rattle.forec_engine.specs.Farms.{worse, worst}
 use Rattle.forec_engine.specs.Farming.{IsRunStatus, AreRun}
 

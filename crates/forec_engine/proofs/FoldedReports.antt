@@ -16,13 +16,13 @@ use Rattle.kernel_fold.specs.Laws.{UpToOver, FoldingKeepsRuns}
 use Rattle.text_verdict.specs.declared.counts.Counts.{Counts}
 use Rattle.thread_places.specs.Placed.{refusal_of}
 use Rattle.trace_rows.specs.Trace.{TraceEnd, trace_of}
-use Rattle.trace_runs.specs.Formats.{opening, format_after}
-use Rattle.trace_runs.specs.KernelNames.{input_names, run_format}
-use Rattle.trace_runs.specs.declared.format.Format.{Format}
-use Rattle.trace_runs.specs.declared.format.Telling.{Telling}
-use Rattle.trace_runs.specs.declared.format.Telling.TheVariants as telling
-use Rattle.trace_runs.specs.Report.{Report, outcome_lines, lines_from, last_outcome, ending, behind_bytes, trace_report}
-use Rattle.trace_runs.specs.declared.status.Status.TheVariants as status
+use Rattle.trace_ticks.specs.Formats.{opening, format_after}
+use Rattle.trace_ticks.specs.KernelNames.{input_names, run_format}
+use Rattle.trace_ticks.specs.declared.format.Format.{Format}
+use Rattle.trace_ticks.specs.declared.format.Telling.{Telling}
+use Rattle.trace_ticks.specs.declared.format.Telling.TheVariants as telling
+use Rattle.trace_ticks.specs.Report.{Report, outcome_lines, lines_from, last_outcome, ending, behind_bytes, trace_report}
+use Rattle.trace_ticks.specs.declared.status.Status.TheVariants as status
 use Rattle.forec_engine.specs.Budgets.{budget_for, with_budget}
 use Rattle.forec_engine.specs.Commands.{AcceptedReport, CommandReport, IsReport, Of_usage, Of_text, Of_workload, Of_dump, TextReport, Of_refusal, Of_accepted, run_report, explain_report, Of_farm, Of_log, Of_replay}
 use Rattle.forec_engine.specs.Ends.{running_in}

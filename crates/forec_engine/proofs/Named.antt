@@ -11,11 +11,11 @@ use Rattle.text_verdict.specs.Judging.{Judged, Accepts, Refuses, too_long, most_
 use Rattle.text_verdict.specs.declared.counts.Counts.{Counts}
 use Rattle.text_verdict.specs.declared.refusal.Refusal.{Refusal}
 use Rattle.text_verdict.specs.declared.refusal.Refusal.TheVariants as why
-use Rattle.trace_runs.specs.Prints.{PrintsReport}
-use Rattle.trace_runs.specs.declared.status.Status.{Status}
-use Rattle.trace_runs.specs.declared.status.Status.TheVariants as status
-use Rattle.trace_runs.proofs.Told.{some_map}
-use Rattle.trace_runs.proofs.Printing.{prints_as, prints_nothing, prints_unread}
+use Rattle.trace_ticks.specs.Prints.{PrintsReport}
+use Rattle.trace_ticks.specs.declared.status.Status.{Status}
+use Rattle.trace_ticks.specs.declared.status.Status.TheVariants as status
+use Rattle.trace_ticks.proofs.Told.{some_map}
+use Rattle.trace_ticks.proofs.Printing.{prints_as, prints_nothing, prints_unread}
 
 pub told_same : (o : Option (List ℕ)) (Q : List ℕ → Type 0) (text : List ℕ) → IfSome o Q → o ≡ Some text → Q text
 told_same o Q text q e = subst (λ (x : Option (List ℕ)). IfSome x Q) e q

@@ -11,12 +11,12 @@ use Rattle.text_verdict.specs.Judging.{Judged, Accepts, Refuses, too_long, most_
 use Rattle.text_verdict.specs.declared.counts.Counts.{Counts}
 use Rattle.text_verdict.specs.declared.refusal.Refusal.{Refusal}
 use Rattle.text_verdict.specs.declared.refusal.Refusal.TheVariants as why
-use Rattle.trace_runs.specs.Prints.{Prints, PrintsReport}
-use Rattle.trace_runs.specs.Report.{Report}
-use Rattle.trace_runs.specs.declared.status.Status.{Status}
-use Rattle.trace_runs.specs.declared.status.Status.TheVariants as status
-use Rattle.trace_runs.proofs.Told.{some_map}
-use Rattle.trace_runs.proofs.Printing.{prints_as, prints_nothing, prints_unread}
+use Rattle.trace_ticks.specs.Prints.{Prints, PrintsReport}
+use Rattle.trace_ticks.specs.Report.{Report}
+use Rattle.trace_ticks.specs.declared.status.Status.{Status}
+use Rattle.trace_ticks.specs.declared.status.Status.TheVariants as status
+use Rattle.trace_ticks.proofs.Told.{some_map}
+use Rattle.trace_ticks.proofs.Printing.{prints_as, prints_nothing, prints_unread}
 use Rattle.forec_engine.specs.Budgets.{budget_for, boundless, IsBoundless}
 use Rattle.forec_engine.specs.Commands.{Of_refusal, Of_accepted, TextReport, refused}
 use Rattle.forec_engine.specs.Ends.{ReplaysAs, WantedForReplay, ReadForReplayOf, AcceptedSo}

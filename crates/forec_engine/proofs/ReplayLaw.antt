@@ -33,11 +33,11 @@ use Rattle.text_verdict.specs.Laws.{OneVerdict, AcceptedTextsAreFormed}
 use Rattle.tick_bounds.specs.Bound.{worst_case}
 use Rattle.trace_rows.specs.Trace.{TraceEnd, Row, trace_of}
 use Rattle.trace_rows.specs.declared.fault.RowFault.{RowFault}
-use Rattle.trace_runs.specs.KernelNames.{input_names, run_format}
-use Rattle.trace_runs.specs.Report.{Report, last_outcome, end_of_trace, ending, trace_report, trace_turns, turns_from}
-use Rattle.trace_runs.specs.declared.format.Format.{Format}
-use Rattle.trace_runs.specs.declared.format.Telling.TheVariants as telling
-use Rattle.trace_runs.specs.declared.status.Status.TheVariants as status
+use Rattle.trace_ticks.specs.KernelNames.{input_names, run_format}
+use Rattle.trace_ticks.specs.Report.{Report, last_outcome, end_of_trace, ending, trace_report, trace_turns, turns_from}
+use Rattle.trace_ticks.specs.declared.format.Format.{Format}
+use Rattle.trace_ticks.specs.declared.format.Telling.TheVariants as telling
+use Rattle.trace_ticks.specs.declared.status.Status.TheVariants as status
 use Rattle.value_ranges.specs.Words.{AreWords}
 use Rattle.wave_laws.proofs.Rows.{trace_good}
 use Rattle.forec_engine.specs.Budgets.{budget_for, IsSmallBudget}

@@ -34,9 +34,9 @@ use Rattle.exchange_log.specs.Posted.{log_words}
 use Rattle.forec_kernel.specs.WellFormed.{WellFormed}
 use Rattle.forec_base.specs.declared.limits.TheConstants.{MAX_ROWS}
 use Rattle.forec_engine.specs.Placing.{misplaced, misplacing}
-use Rattle.trace_runs.specs.Report.{Report, trace_turns}
-use Rattle.trace_runs.specs.declared.format.Telling.{Telling}
-use Rattle.trace_runs.specs.declared.format.Telling.TheVariants as telling
+use Rattle.trace_ticks.specs.Report.{Report, trace_turns}
+use Rattle.trace_ticks.specs.declared.format.Telling.{Telling}
+use Rattle.trace_ticks.specs.declared.format.Telling.TheVariants as telling
 use Rattle.forec_engine.specs.Placing.{workload_report}
 
 pub some_same : {A : Type 0} (x y : A) → Some x ≡ Some y → x ≡ y

@@ -11,7 +11,7 @@ use Rattle.log_text.specs.Fronts.{BeginsLog, IsFirstBad, IsLogOf, lines_in}
 use Rattle.log_text.specs.Stages.{AtHead}
 use Rattle.log_text.proofs.FrontLemmas.{begins}
 use Rattle.log_runs.specs.ReplayRuns.{AgreesText, FailsLast, IsReplay, Of_no_log, Of_thread, Of_tick, Of_left, Of_same}
-use Rattle.trace_runs.specs.Report.{Report, trace_turns}
+use Rattle.trace_ticks.specs.Report.{Report, trace_turns}
 
 -- ---- a text is a log, or has a first bad line
 

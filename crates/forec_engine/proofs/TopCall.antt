@@ -15,12 +15,12 @@ use Rattle.forec_engine.specs.Placing.{IsRefusedRun}
 use Rattle.forec_engine.specs.Replaying.{ReplaysNamed}
 use Rattle.command_words.specs.declared.request.Budget.{Budget}
 use Rattle.std.specs.Option.{IfSome}
-use Rattle.trace_runs.specs.Ends.{IsOwn}
-use Rattle.trace_runs.specs.Prints.{Prints, PrintsReport}
-use Rattle.trace_runs.specs.declared.status.Status.{Status}
-use Rattle.trace_runs.specs.declared.status.Status.TheVariants as status
-use Rattle.trace_runs.proofs.EndLemmas.{neither_fault}
-use Rattle.trace_runs.proofs.Printing.{prints_as}
+use Rattle.trace_ticks.specs.Ends.{IsOwn}
+use Rattle.trace_ticks.specs.Prints.{Prints, PrintsReport}
+use Rattle.trace_ticks.specs.declared.status.Status.{Status}
+use Rattle.trace_ticks.specs.declared.status.Status.TheVariants as status
+use Rattle.trace_ticks.proofs.EndLemmas.{neither_fault}
+use Rattle.trace_ticks.proofs.Printing.{prints_as}
 
 module _ {S K : Type 0} (left : S → Option (List ℕ)) (faults : S → ℕ) (down : S → Bool) (held : K → Option (List ℕ)) (lost : K → ℕ) (is_down : K → Bool) (words : List (List ℕ)) (content : List ℕ → Option (List ℕ)) (Lost : Type 0)
     (old new : S) (out out' : K) where

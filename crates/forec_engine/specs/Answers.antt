@@ -10,12 +10,12 @@ use Rattle.forec_engine.specs.Commands.{AcceptedReport, CommandReport, TextRepor
 use Rattle.forec_engine.specs.Ends.{WantedByText, WantedByWords, ReadForText, ReadForWords, CommandIsMisused, FoldedIsMisused, AcceptedSo, IsMisuse, NameText, AskForRewriting, Rewrites, running_in, telling_in}
 use Rattle.forec_engine.specs.Placing.{misplacing}
 use Rattle.whole_writes.specs.Calls.{AppendsFront}
-use Rattle.trace_runs.specs.Ends.{IsOwn, Given, Wanted, ReadFor}
-use Rattle.trace_runs.specs.KernelNames.{run_format}
-use Rattle.trace_runs.specs.Prints.{Prints}
-use Rattle.trace_runs.specs.Report.{Report}
-use Rattle.trace_runs.specs.declared.status.Status.{Status}
-use Rattle.trace_runs.specs.declared.status.Status.TheVariants as status
+use Rattle.trace_ticks.specs.Ends.{IsOwn, Given, Wanted, ReadFor}
+use Rattle.trace_ticks.specs.KernelNames.{run_format}
+use Rattle.trace_ticks.specs.Prints.{Prints}
+use Rattle.trace_ticks.specs.Report.{Report}
+use Rattle.trace_ticks.specs.declared.status.Status.{Status}
+use Rattle.trace_ticks.specs.declared.status.Status.TheVariants as status
 
 -- this is said of how a command runs over the trace; it does
 abbrev pub Running : PlainCommand → (PlainRunning → Type 0) → Type 0

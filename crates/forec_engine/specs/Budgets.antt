@@ -6,8 +6,8 @@ use Rattle.tick_bounds.specs.Bound.{worst_case}
 use Rattle.tick_bounds.specs.Capped.{as_budget}
 use Rattle.command_words.specs.declared.request.Budget.{Budget}
 use Rattle.command_words.specs.declared.request.Budget.TheVariants as budget
-use Rattle.trace_runs.specs.Report.{Report}
-use Rattle.trace_runs.specs.declared.status.Status.TheVariants as status
+use Rattle.trace_ticks.specs.Report.{Report}
+use Rattle.trace_ticks.specs.declared.status.Status.TheVariants as status
 
 -- so many units, or the bound of a kernel; none where it has none
 abbrev pub budget_for : PlainKernel → Budget → Option ℕ

@@ -3,9 +3,9 @@ use Rattle.std.specs.Prelude.{◌≡◌, ℕ, List, Option, Some}
 use Rattle.dump_report.specs.Told.{dump_report}
 use Rattle.dump_report.specs.declared.status.DumpStatus.{DumpStatus}
 use Rattle.dump_report.specs.declared.status.DumpStatus.TheVariants as dump
-use Rattle.trace_runs.specs.Report.{Report}
-use Rattle.trace_runs.specs.declared.status.Status.{Status}
-use Rattle.trace_runs.specs.declared.status.Status.TheVariants as status
+use Rattle.trace_ticks.specs.Report.{Report}
+use Rattle.trace_ticks.specs.declared.status.Status.{Status}
+use Rattle.trace_ticks.specs.declared.status.Status.TheVariants as status
 
 -- the status of the program, where what a dump tells ended so
 abbrev pub status_of_dump : DumpStatus → Status

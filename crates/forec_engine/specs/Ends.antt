@@ -12,10 +12,10 @@ use Rattle.forec_engine.specs.Placing.{misplacing, IsMisplaced, IsRefusedRun}
 use Rattle.log_runs.specs.ReplayRuns.{WantedByReplay, ReadForReplay}
 use Rattle.log_runs.specs.RunLogs.{WantedUntold}
 use Rattle.log_runs.specs.declared.replaying.TheConstants.{MAX_LOG_BYTES}
-use Rattle.trace_runs.specs.Ends.{Wanted, ReadFor}
-use Rattle.trace_runs.specs.KernelNames.{run_format}
-use Rattle.trace_runs.specs.declared.format.Telling.{Telling}
-use Rattle.trace_runs.specs.declared.format.Telling.TheVariants as telling
+use Rattle.trace_ticks.specs.Ends.{Wanted, ReadFor}
+use Rattle.trace_ticks.specs.KernelNames.{run_format}
+use Rattle.trace_ticks.specs.declared.format.Telling.{Telling}
+use Rattle.trace_ticks.specs.declared.format.Telling.TheVariants as telling
 use Rattle.text_verdict.specs.declared.counts.Counts.{Counts}
 
 -- A text of this kernel runs with so many units a tick: it is accepted, and neither the budget nor a list of places is refused for the

@@ -6,11 +6,11 @@ use Rattle.forec_base.specs.declared.limits.TheConstants.{MAX_TEXT_BYTES}
 use Rattle.forec_kernel.specs.Shapes.{PlainKernel}
 use Rattle.command_words.specs.declared.request.Budget.{Budget}
 use Rattle.trace_farm.specs.Farm.{NumberedReport, with_number}
-use Rattle.trace_runs.specs.KernelNames.{run_format}
-use Rattle.trace_runs.specs.Report.{Report, trace_report}
-use Rattle.trace_runs.specs.declared.format.Telling.TheVariants as telling
-use Rattle.trace_runs.specs.declared.status.Status.{Status}
-use Rattle.trace_runs.specs.declared.status.Status.TheVariants as status
+use Rattle.trace_ticks.specs.KernelNames.{run_format}
+use Rattle.trace_ticks.specs.Report.{Report, trace_report}
+use Rattle.trace_ticks.specs.declared.format.Telling.TheVariants as telling
+use Rattle.trace_ticks.specs.declared.status.Status.{Status}
+use Rattle.trace_ticks.specs.declared.status.Status.TheVariants as status
 use Rattle.forec_engine.specs.Budgets.{budget_for, with_budget}
 use Rattle.forec_engine.specs.Commands.{TextReport}
 use Rattle.forec_engine.specs.Farms.{too_long, groups, worst, farm_report, AreTextsOf, FarmedReport}

@@ -9,12 +9,12 @@ use Rattle.text_verdict.specs.Judging.{refusal_line}
 use Rattle.text_verdict.specs.declared.counts.Counts.{Counts}
 use Rattle.text_verdict.specs.declared.refusal.Refusal.TheVariants as refusal
 use Rattle.trace_farm.specs.Farm.{NumberedReport, with_number}
-use Rattle.trace_runs.specs.KernelNames.{run_format}
-use Rattle.trace_runs.specs.Report.{Report, trace_report}
-use Rattle.trace_runs.specs.declared.format.Telling.TheVariants as telling
-use Rattle.trace_runs.specs.StatusNumbers.{status_number}
-use Rattle.trace_runs.specs.declared.status.Status.{Status}
-use Rattle.trace_runs.specs.declared.status.Status.TheVariants as status
+use Rattle.trace_ticks.specs.KernelNames.{run_format}
+use Rattle.trace_ticks.specs.Report.{Report, trace_report}
+use Rattle.trace_ticks.specs.declared.format.Telling.TheVariants as telling
+use Rattle.trace_ticks.specs.StatusNumbers.{status_number}
+use Rattle.trace_ticks.specs.declared.status.Status.{Status}
+use Rattle.trace_ticks.specs.declared.status.Status.TheVariants as status
 use Rattle.forec_engine.specs.Budgets.{budget_for, with_budget}
 use Rattle.forec_engine.specs.declared.farm_traces.TheConstants.{FARM_ROWS}
 

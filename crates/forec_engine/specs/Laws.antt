@@ -15,10 +15,10 @@ use Rattle.forec_engine.specs.Budgets.{budget_for, Covers}
 use Rattle.forec_engine.specs.Folds.{kernel_for}
 use Rattle.forec_engine.specs.Commands.{IsListing, IsReport, IsKnown}
 use Rattle.forec_engine.specs.Ends.{running_in}
-use Rattle.trace_runs.specs.KernelNames.{run_format}
-use Rattle.trace_runs.specs.Report.{Report, trace_report, trace_turns}
-use Rattle.trace_runs.specs.declared.format.Telling.TheVariants as telling
-use Rattle.trace_runs.specs.declared.status.Status.TheVariants as status
+use Rattle.trace_ticks.specs.KernelNames.{run_format}
+use Rattle.trace_ticks.specs.Report.{Report, trace_report, trace_turns}
+use Rattle.trace_ticks.specs.declared.format.Telling.TheVariants as telling
+use Rattle.trace_ticks.specs.declared.status.Status.TheVariants as status
 
 -- the words ask for the listing of a code
 abbrev pub AskForCode : List (List ℕ) → Type 0

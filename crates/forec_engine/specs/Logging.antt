@@ -10,12 +10,12 @@ use Rattle.forec_engine.specs.Ends.{WantedForLog, ReadForText, AcceptedSo}
 use Rattle.forec_engine.specs.Logs.{LogReport, AcceptedLog, TellsLog}
 use Rattle.forec_engine.specs.Placing.{misplacing, IsRefusedRun}
 use Rattle.log_runs.specs.RunLogs.{WantedUntold}
-use Rattle.trace_runs.specs.Ends.{ReadFor}
-use Rattle.trace_runs.specs.KernelNames.{run_format}
-use Rattle.trace_runs.specs.Led.{IsTold}
-use Rattle.trace_runs.specs.Prints.{Prints}
-use Rattle.trace_runs.specs.declared.format.Telling.TheVariants as telling
-use Rattle.trace_runs.specs.declared.status.Status.{Status}
+use Rattle.trace_ticks.specs.Ends.{ReadFor}
+use Rattle.trace_ticks.specs.KernelNames.{run_format}
+use Rattle.trace_ticks.specs.Led.{IsTold}
+use Rattle.trace_ticks.specs.Prints.{Prints}
+use Rattle.trace_ticks.specs.declared.format.Telling.TheVariants as telling
+use Rattle.trace_ticks.specs.declared.status.Status.{Status}
 
 module _ {S K : Type 0} (left : S → Option (List ℕ)) (faults : S → ℕ) (down : S → Bool) (held : K → Option (List ℕ)) (lost : K → ℕ)
     (is_down : K → Bool) (running : PlainRunning) where

@@ -8,8 +8,8 @@ use Rattle.forec_engine.specs.Budgets.{budget_for, boundless}
 use Rattle.forec_engine.specs.Placing.{misplaced, misplacing}
 use Rattle.log_runs.specs.RunLogs.{IsRunLog}
 use Rattle.text_verdict.specs.declared.counts.Counts.{Counts}
-use Rattle.trace_runs.specs.Led.{IsTold}
-use Rattle.trace_runs.specs.Report.{Report}
+use Rattle.trace_ticks.specs.Led.{IsTold}
+use Rattle.trace_ticks.specs.Report.{Report}
 
 -- r is the log of a kernel that runs so over a trace of these bytes; where there is no bound, or the list of places is refused, r says so
 pub data LogReport (k : PlainKernel) (running : PlainRunning) (bytes : List ℕ) (r : Report) : Type 0 where

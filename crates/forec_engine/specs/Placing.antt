@@ -6,9 +6,9 @@ use Rattle.core_alloc.specs.declared.fault.PlaceFault.TheVariants as fault
 use Rattle.command_words.specs.Requests.{PlainPlacing, PlainRunning}
 use Rattle.thread_places.specs.Placed.{refusal_of}
 use Rattle.forec_engine.specs.Budgets.{budget_for, with_budget, IsBoundless}
-use Rattle.trace_runs.specs.Report.{Report}
-use Rattle.trace_runs.specs.Workload.{ticked_report}
-use Rattle.trace_runs.specs.declared.status.Status.TheVariants as status
+use Rattle.trace_ticks.specs.Report.{Report}
+use Rattle.trace_ticks.specs.Workload.{ticked_report}
+use Rattle.trace_ticks.specs.declared.status.Status.TheVariants as status
 
 -- `place shape A`, `place count F` or `place core A`; out of memory refuses no list
 abbrev pub place_line : PlaceFault → List ℕ

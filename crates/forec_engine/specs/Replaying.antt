@@ -10,9 +10,9 @@ use Rattle.forec_engine.specs.Ends.{WantedForReplay, ReadForReplayOf, AcceptedSo
 use Rattle.forec_engine.specs.Replays.{NamedReplay, AcceptedReplay, TellsReplay}
 use Rattle.log_runs.specs.ReplayRuns.{WantedByReplay, ReadForReplay}
 use Rattle.log_runs.specs.declared.replaying.TheConstants.{MAX_LOG_BYTES}
-use Rattle.trace_runs.specs.Led.{IsTold}
-use Rattle.trace_runs.specs.Prints.{Prints}
-use Rattle.trace_runs.specs.declared.status.Status.{Status}
+use Rattle.trace_ticks.specs.Led.{IsTold}
+use Rattle.trace_ticks.specs.Prints.{Prints}
+use Rattle.trace_ticks.specs.declared.status.Status.{Status}
 
 -- the log of a name is told, and the trace
 abbrev pub TellsLogAndTrace : (List ℕ → Option (List ℕ)) → List ℕ → Option (List ℕ) → Type 0

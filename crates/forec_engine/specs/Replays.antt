@@ -8,8 +8,8 @@ use Rattle.forec_engine.specs.Farms.{too_long}
 use Rattle.log_runs.specs.ReplayRuns.{IsReplay}
 use Rattle.log_runs.specs.declared.replaying.TheConstants.{MAX_LOG_BYTES}
 use Rattle.text_verdict.specs.declared.counts.Counts.{Counts}
-use Rattle.trace_runs.specs.Led.{IsTold}
-use Rattle.trace_runs.specs.Report.{Report}
+use Rattle.trace_ticks.specs.Led.{IsTold}
+use Rattle.trace_ticks.specs.Report.{Report}
 
 -- r is what is told of the text of a log and a kernel's run over a trace of these bytes; where there is no bound, or the log is too long, r says so
 pub data ReplayReport (k : PlainKernel) (b : Budget) (log bytes : List ℕ) (r : Report) : Type 0 where

@@ -9,7 +9,7 @@ ghost use Rattle.forec_engine.specs.Budgets.{budget_for, boundless, IsSmallBudge
 ghost use Rattle.forec_engine.specs.Commands.{refused, counts_report, threads_listed, ThreadsReport, IsListing, IsPlaceable, IsRunnable, IsInRange};
 ghost use Rattle.forec_engine.specs.Ends.{run_with};
 ghost use Rattle.forec_engine.specs.Placing.{misplaced, workload_report, IsMisplaced, IsRefusedRun};
-ghost use Rattle.trace_runs.specs.Prints.{Prints, PrintsReport};
+ghost use Rattle.trace_ticks.specs.Prints.{Prints, PrintsReport};
 
 use crate::lines::{put_counts, put_misplaced, put_refusal};
 use crate::room::has_room;
@@ -25,9 +25,8 @@ use text_verdict::{Accepted, Counts, Refusal};
 use thread_code::listing;
 use thread_places::{place, thread_list};
 use tick_bounds::tick_bound;
-use trace_runs::{
-    Setting, Status, Telling, Waiting, host_trace, host_workload, rewrite_trace, say,
-};
+use trace_runs::{host_trace, host_workload, rewrite_trace};
+use trace_ticks::{Setting, Status, Telling, Waiting, say};
 
 /// Says why a text is refused.
 pub fn refuse<K: Sink>(alloc: Global, why: Refusal, out: &mut K) -> Status

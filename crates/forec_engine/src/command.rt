@@ -6,11 +6,11 @@ ghost use Rattle.workload.specs.Text.{workload_text};
 ghost use Rattle.whole_writes.specs.Calls.{AppendsFront};
 ghost use Rattle.forec_engine.specs.Answers.{AnswersText, AnswersNamed, AnswersWords};
 ghost use Rattle.forec_engine.specs.Commands.{IsReport, WorkloadReport, IsKnown, IsInRange, IsRunnable};
-ghost use Rattle.trace_runs.specs.Ends.{IsOwn, Given};
+ghost use Rattle.trace_ticks.specs.Ends.{IsOwn, Given};
 ghost use Rattle.forec_engine.specs.Ends.{WantedByWords, ReadForWords, AcceptedSo, IsMisuse, NameThis, NameText, AskForRewriting};
 ghost use Rattle.forec_engine.specs.Placing.{IsRefusedRun};
-ghost use Rattle.trace_runs.specs.Prints.{Prints};
-ghost use Rattle.trace_runs.specs.Report.{Report};
+ghost use Rattle.trace_ticks.specs.Prints.{Prints};
+ghost use Rattle.trace_ticks.specs.Report.{Report};
 
 use crate::answering::{answer_workload, refuse};
 use crate::dumps::tell_named;
@@ -24,7 +24,7 @@ use std::alloc::Global;
 use std::sync::Wait;
 use std::thread::Threads;
 use text_verdict::{JudgeFault, Refusal, judge};
-use trace_runs::{Setting, Status, say};
+use trace_ticks::{Setting, Status, say};
 use workload::workload_text;
 
 const USAGE: &[u8] =

@@ -2,14 +2,14 @@
 ghost use Rattle.std.specs.Prelude.{◌≡◌, List, ℕ, Some};
 ghost use Rattle.forec_base.specs.Outside.{Fell};
 ghost use Rattle.forec_engine.specs.Dumps.{DumpReport, dump_printed, status_of_dump};
-ghost use Rattle.trace_runs.specs.Prints.{Prints, PrintsReport};
+ghost use Rattle.trace_ticks.specs.Prints.{Prints, PrintsReport};
 
 use crate::answering::refuse;
 use dump_report::{DumpStatus, dumps_are_told, tell};
 use forec_base::{MAX_TEXT_BYTES, Sink, TextFault, Texts};
 use std::alloc::Global;
 use text_verdict::Refusal;
-use trace_runs::Status;
+use trace_ticks::Status;
 
 /// The status of the program, where what a dump tells ended so.
 fn status_of(end: DumpStatus) -> Status

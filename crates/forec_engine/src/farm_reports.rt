@@ -4,8 +4,8 @@ ghost use Rattle.std.specs.Io.KnownBytes.{Appends};
 ghost use Rattle.trace_farm.specs.Farm.{plain_report};
 ghost use Rattle.trace_rows.specs.Calls.{Faults};
 ghost use Rattle.whole_writes.specs.Calls.{AppendsFront};
-ghost use Rattle.trace_runs.specs.StatusNumbers.{status_number};
-ghost use Rattle.trace_runs.specs.declared.status.Status.{Status};
+ghost use Rattle.trace_ticks.specs.StatusNumbers.{status_number};
+ghost use Rattle.trace_ticks.specs.declared.status.Status.{Status};
 ghost use Rattle.forec_engine.specs.Farms.{groups, worst};
 ghost use Rattle.forec_engine.specs.Farming.{plain_told, told_as, told_all};
 
@@ -14,7 +14,7 @@ use forec_base::{Failed, OutOfMemory, Sink};
 use std::alloc::Global;
 use std::thread::Threads;
 use trace_farm::{FarmReport, greatest};
-use trace_runs::Status;
+use trace_ticks::Status;
 
 /// What is told of a trace: its report, or that it is too long.
 fn told<'a>(report: &'a FarmReport, is_long: bool) -> Told<'a>

@@ -4,8 +4,8 @@ ghost use Rattle.forec_base.specs.Outside.{Fell};
 ghost use Rattle.forec_base.specs.declared.limits.TheConstants.{MAX_BUDGET};
 ghost use Rattle.forec_kernel.specs.Shapes.{plain_kernel};
 ghost use Rattle.trace_farm.specs.Farm.{plain_report, with_number};
-ghost use Rattle.trace_runs.specs.Prints.{Prints, PrintsReport};
-ghost use Rattle.trace_runs.specs.Report.{Report};
+ghost use Rattle.trace_ticks.specs.Prints.{Prints, PrintsReport};
+ghost use Rattle.trace_ticks.specs.Report.{Report};
 ghost use Rattle.forec_engine.specs.Budgets.{IsSmallBudget, IsBoundless};
 ghost use Rattle.forec_engine.specs.Commands.{TextReport};
 ghost use Rattle.forec_engine.specs.Ends.{AcceptedSo};
@@ -24,7 +24,7 @@ use std::sync::Wait;
 use std::thread::Threads;
 use text_verdict::{JudgeFault, Refusal, judge};
 use trace_farm::{FarmReport, farm};
-use trace_runs::{Setting, Status};
+use trace_ticks::{Setting, Status};
 
 /// What a farm is over: the names of the traces, and how many units a tick may have.
 #[derive(Clone, Copy)]

@@ -14,7 +14,7 @@ use std::alloc::Global;
 use std::sync::Wait;
 use std::thread::Threads;
 use text_verdict::Accepted;
-use trace_runs::{Setting, Status};
+use trace_ticks::{Setting, Status};
 
 /// A text that is accepted, whose kernel has its constants folded where that is asked for.
 fn as_asked(alloc: Global, accepted: Accepted, is_folded: bool) -> Result<Accepted, OutOfMemory>

@@ -20,4 +20,4 @@ pub use laws::{
     each_command_has_a_report, enough_is_never_over, folding_prints_the_same, replay_ok_is_the_log,
     reports_are_alike, reports_are_unique,
 };
-pub use trace_runs::{Setting, Status};
+pub use trace_ticks::{Setting, Status};

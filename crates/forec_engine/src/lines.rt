@@ -2,14 +2,14 @@
 ghost use Rattle.std.specs.Prelude.{◌≡◌, ◌≤◌, ◌++◌, length, codes, decimal};
 ghost use Rattle.text_verdict.specs.Counting.{counts_line};
 ghost use Rattle.text_verdict.specs.Judging.{limit_words, refused_at, refusal_line};
-ghost use Rattle.trace_runs.specs.WaitingRoom.{HasRoomFor, GainsBytes};
+ghost use Rattle.trace_ticks.specs.WaitingRoom.{HasRoomFor, GainsBytes};
 ghost use Rattle.forec_engine.specs.Placing.{place_line};
 
 use core_alloc::PlaceFault;
 use forec_base::Place;
 use itoa::Buffer;
 use text_verdict::{Counts, Quantity, Refusal};
-use trace_runs::Waiting;
+use trace_ticks::Waiting;
 
 /// Adds `refused`, a place and a word.
 fn put_refused_at(waiting: &mut Waiting, place: Place, word: &[u8])

@@ -17,7 +17,7 @@ use std::sync::Wait;
 use std::thread::Threads;
 use text_verdict::{JudgeFault, Refusal, judge};
 use thread_places::place;
-use trace_runs::{Setting, Status};
+use trace_ticks::{Setting, Status};
 
 /// Places the threads, and runs with so many units a tick. Then the log is written.
 fn place_and_log<S: Source, K: Sink, G: Gate + Sync, R: Threads + Wait + Sync>(

@@ -13,7 +13,7 @@ use forec_kernel::Kernel;
 use log_runs::{MAX_LOG_BYTES, replay_log};
 use std::alloc::Global;
 use text_verdict::{JudgeFault, Refusal, judge};
-use trace_runs::Status;
+use trace_ticks::Status;
 
 /// What is replayed: the name of the log, and how many units a tick may have.
 #[derive(Clone, Copy)]

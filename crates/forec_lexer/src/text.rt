@@ -1,5 +1,5 @@
 //! A whole text.
-ghost use Rattle.std.specs.Prelude.{◌≡◌, ◌≢◌, ◌≤◌, ◌<◌, ◌+◌, ℕ, List, length, All, IfOk, IfErr, OnOk, IsOkAnd, Err, fold};
+ghost use Rattle.std.specs.Prelude.{◌≡◌, ◌≢◌, ◌≤◌, ◌<◌, ◌+◌, ℕ, List, [], length, All, IfOk, IfErr, OnOk, IsOkAnd, Err, fold};
 ghost use Rattle.forec_base.specs.declared.Place.{Place};
 ghost use Rattle.forec_base.specs.declared.limits.TheConstants.{MAX_TOKENS};
 ghost use Rattle.forec_tree.specs.declared.token.Token.{Token};
@@ -110,13 +110,19 @@ fn keep(
     Ok(())
 }
 
-fn lexed_text(alloc: Global, text: &[u8]) -> Result<Lexed, LexFault>
-    requires { length text.now ≤ 1048576 }
-    ensures ok { IfOk result (λ l. IsLexed text.now l.tokens.items l.names) }
-    ensures err { IfErr result (HasLexCause text.now) }
+/// Adds the tokens of a text and the names that they number, where there are none yet.
+fn lexed_into<'a>(
+    tokens: &mut Vec<Token>,
+    names: &mut Names<'a>,
+    text: &'a [u8],
+) -> Result<(), LexFault>
+    requires small { length text.now ≤ 1048576 }
+    requires no_tokens { tokens.old.items ≡ [] }
+    requires no_names { names.old.labels ≡ [] }
+    requires same { IsSame names.old }
+    ensures ok { OnOk result (IsLexed text.entry.now tokens.new.items names.new.labels) }
+    ensures err { IfErr result (HasLexCause text.entry.now) }
 {
-    let mut tokens = Vec::new(alloc);
-    let mut names = Names::new(alloc)?;
     let mut at = 0;
     let mut place = Place { line: 1, column: 1 };
     while at < text.len() {
@@ -125,11 +131,22 @@ fn lexed_text(alloc: Global, text: &[u8]) -> Result<Lexed, LexFault>
             return Err(LexFault::Bad { place });
         };
         let bytes = &rest[..len];
-        let kind = kind_of(&mut names, piece, bytes)?;
-        keep(&mut tokens, kind, at, at + len, place)?;
+        let kind = kind_of(names, piece, bytes)?;
+        keep(tokens, kind, at, at + len, place)?;
         place = place_behind(place, bytes);
         at += len;
     }
+    Ok(())
+}
+
+fn lexed_text(alloc: Global, text: &[u8]) -> Result<Lexed, LexFault>
+    requires { length text.now ≤ 1048576 }
+    ensures ok { IfOk result (λ l. IsLexed text.now l.tokens.items l.names) }
+    ensures err { IfErr result (HasLexCause text.now) }
+{
+    let mut names = Names::new(alloc)?;
+    let mut tokens = Vec::new(alloc);
+    lexed_into(&mut tokens, &mut names, text)?;
     Ok(Lexed {
         tokens,
         names: names.into_labels(),

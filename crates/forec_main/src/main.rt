@@ -1,15 +1,6 @@
 //! The program: the command that its words name, over standard input, standard output and files.
 #![tactic(auto)]
 
-mod files;
-mod input;
-mod output;
-mod room;
-
-use crate::files::Files;
-use crate::input::Input;
-use crate::output::Output;
-use crate::room::{LEAST, ROOMS, has_room};
 use forec_base::{OpenGate, OutOfMemory};
 use forec_engine::{Setting, Status, forec_within};
 use std::io::{ErrorKind, Read};
@@ -18,6 +9,7 @@ use std::rt::{Env, Files as FilesOf};
 use std::sync::Wait;
 use std::thread::{self, Builder, Threads};
 use std::{env, io};
+use std_streams::{Files, Input, LEAST, Output, ROOMS, has_room};
 
 /// The words after the program's own name. Where one of them isn't text they are none, which is no command.
 fn words(rt: &(impl Env + AllocGlobal)) -> Result<Vec<String>, OutOfMemory> {

@@ -21,13 +21,13 @@ use Rattle.forec_tree.specs.Spelling.{Spelt, at, IsMark, IsWord}
 use Rattle.forec_tree.specs.SpelledStatements.{Separated, last_part, next_part}
 use Rattle.forec_tree.specs.SpelledPrograms.{Signed, positive, negative, Named, named, Scalar, unset, set, Table, constant, table, policy_word, SpellsCombine, combines, Param, param, Params, no_params, void_params, params, Parameters, parameters}
 use Rattle.expr_parser.specs.declared.fixed.Fixed.TheVariants as fixed
-use Rattle.forec_parser.specs.declared.meaning.Declarator.{Declarator}
-use Rattle.forec_parser.specs.declared.meaning.Declarator.TheVariants as decl
+use Rattle.statement_parser.specs.declared.meaning.Declarator.{Declarator}
+use Rattle.statement_parser.specs.declared.meaning.Declarator.TheVariants as decl
 use Rattle.expr_parser.specs.Input.{Input, Parser, kind_ahead, take}
 use Rattle.expr_parser.specs.Meaning.{is_fixed}
-use Rattle.forec_parser.specs.Meaning.{token_policy}
+use Rattle.statement_parser.specs.Meaning.{token_policy}
 use Rattle.expr_parser.specs.Reading.{separated}
-use Rattle.forec_parser.specs.Statements as st
+use Rattle.statement_parser.specs.Statements as st
 use Rattle.forec_parser.specs.Items as it
 use Rattle.forec_parser.specs.Items.{combine_with}
 use Rattle.expr_parser.proofs.Spans.{first, step, ok_pair, took, head_kind, take_ok}
@@ -35,9 +35,9 @@ use Rattle.expr_parser.proofs.Closers.{fixed-kind}
 use Rattle.expr_parser.proofs.Exact.{Lang, Read, Exact, Bind, both, Map, mapped, Done, done, If, on, off, Part, part, Reading, reading, Any, comes, bind, map_to, convert, either, done_at, by_reading, read_as, reads_by}
 use Rattle.expr_parser.proofs.Leaves.{Tok, tok, NameIs, name_is, NumberIs, number_is, token, a_name, a_number, Enclosed, EnclosedBy, between, encloses, enclosing, Listed, end_of_list, next_of_list, full_commas, Full, full, Filled, is_so}
 use Rattle.expr_parser.proofs.Operators.{ends, ends_assign}
-use Rattle.forec_parser.proofs.Marks.{curly_ends, curly_comma}
-use Rattle.forec_parser.proofs.SimpleRules.{a_list, list_reads}
-use Rattle.forec_parser.proofs.PartRules.{MaybeLength, some_length, no_length, maybe_length_by, maybe_length_reads}
+use Rattle.statement_parser.proofs.Marks.{curly_ends, curly_comma}
+use Rattle.statement_parser.proofs.SimpleRules.{a_list, list_reads}
+use Rattle.statement_parser.proofs.PartRules.{MaybeLength, some_length, no_length, maybe_length_by, maybe_length_reads}
 
 round_ends : (k : Option TokenKind) → is_fixed fixed.RightRound k ≡ true → ends k ≡ true
 round_ends k h = ap ends (fixed-kind fixed.RightRound k h)

@@ -19,24 +19,24 @@ use Rattle.forec_tree.specs.SpelledPrograms.{positive, negative, Scalar, unset, 
 use Rattle.forec_tree.specs.SpelledPrograms as sp
 use Rattle.expr_parser.specs.declared.fixed.Fixed.{Fixed}
 use Rattle.expr_parser.specs.declared.fixed.Fixed.TheVariants as fixed
-use Rattle.forec_parser.specs.declared.meaning.Opening.{Opening}
-use Rattle.forec_parser.specs.declared.meaning.Opening.TheVariants as opening
-use Rattle.forec_parser.specs.declared.meaning.Declarator.{Declarator}
-use Rattle.forec_parser.specs.declared.meaning.Declarator.TheVariants as decl
+use Rattle.statement_parser.specs.declared.meaning.Opening.{Opening}
+use Rattle.statement_parser.specs.declared.meaning.Opening.TheVariants as opening
+use Rattle.statement_parser.specs.declared.meaning.Declarator.{Declarator}
+use Rattle.statement_parser.specs.declared.meaning.Declarator.TheVariants as decl
 use Rattle.expr_parser.specs.Input.{Input, kind_ahead}
 use Rattle.expr_parser.specs.Meaning.{is_fixed}
-use Rattle.forec_parser.specs.Meaning.{opening_of}
-use Rattle.forec_parser.specs.Statements as st
-use Rattle.forec_parser.specs.Statements.{read_statement}
+use Rattle.statement_parser.specs.Meaning.{opening_of}
+use Rattle.statement_parser.specs.Statements as st
+use Rattle.statement_parser.specs.Statements.{read_statement}
 use Rattle.forec_parser.specs.Items as it
 use Rattle.expr_parser.proofs.Spans.{first, first-is}
 use Rattle.expr_parser.proofs.Exact.{Lang, Read, Exact, Bind, both, Map, mapped, Done, done, If, on, off, Part, part, Reading, reading, Any, bind, map_to, convert, either, done_at, by_reading, read_as, reads_by, read_at}
 use Rattle.expr_parser.proofs.Leaves.{Tok, tok, NameIs, name_is, token, a_name, between, Listed, Full, Filled, is_so}
 use Rattle.expr_parser.proofs.Operators.{ends}
-use Rattle.forec_parser.proofs.Marks.{semicolon_ends, semicolon_comma}
-use Rattle.forec_parser.proofs.StatementSound.{Bodied, bodied, Braces, block_here, sound_stmt}
-use Rattle.forec_parser.proofs.StatementComplete.{here_reads, block_reads}
-use Rattle.forec_parser.proofs.PartRules.{MaybeLength, some_length, no_length, maybe_length_by, maybe_length_reads}
+use Rattle.statement_parser.proofs.Marks.{semicolon_ends, semicolon_comma}
+use Rattle.statement_parser.proofs.StatementSound.{Bodied, bodied, Braces, block_here, sound_stmt}
+use Rattle.statement_parser.proofs.StatementComplete.{here_reads, block_reads}
+use Rattle.statement_parser.proofs.PartRules.{MaybeLength, some_length, no_length, maybe_length_by, maybe_length_reads}
 use Rattle.forec_parser.proofs.ItemRules.{one_is, tabled, one_number, more_numbers, MaybeValues, no_numbers, some_numbers, maybe_values_by, maybe_values_read, MaybeValue, no_value, some_value, IsItem, Wrapped, wrapped, DeclaredAs, wrap_in, items_read, maybe_value_by, maybe_value_reads, combines_by, combines_reads, parameters_by, parameters_read, declared_reads, declared_filled, declared_list}
 
 -- globals from `int` on

@@ -6,17 +6,17 @@ use Rattle.forec_tree.specs.declared.tree.Number.{Number}
 use Rattle.forec_tree.specs.declared.tree.GlobalKind.{GlobalKind}
 use Rattle.forec_tree.specs.declared.tree.GlobalKind.TheVariants as kind
 use Rattle.expr_parser.specs.declared.fixed.Fixed.TheVariants as fixed
-use Rattle.forec_parser.specs.declared.meaning.Opening.{Opening}
-use Rattle.forec_parser.specs.declared.meaning.Opening.TheVariants as opening
-use Rattle.forec_parser.specs.declared.meaning.Declarator.{Declarator}
-use Rattle.forec_parser.specs.declared.meaning.Declarator.TheVariants as declarator
+use Rattle.statement_parser.specs.declared.meaning.Opening.{Opening}
+use Rattle.statement_parser.specs.declared.meaning.Opening.TheVariants as opening
+use Rattle.statement_parser.specs.declared.meaning.Declarator.{Declarator}
+use Rattle.statement_parser.specs.declared.meaning.Declarator.TheVariants as declarator
 use Rattle.expr_parser.specs.declared.fault.Fault.TheVariants.{Syntax, Deep, OutOfMemory}
 use Rattle.expr_parser.specs.Input.{Input, at_end}
-use Rattle.forec_parser.specs.Meaning.{opening_of, token_policy}
-use Rattle.forec_parser.specs.Statements.{read_statement}
+use Rattle.statement_parser.specs.Meaning.{opening_of, token_policy}
+use Rattle.statement_parser.specs.Statements.{read_statement}
 use Rattle.forec_parser.specs.Items as items
 use Rattle.expr_parser.proofs.Steady.{Limits, deeper, Steady, Loops, bind, done, refused, by_kind, either, taken, closed, enclosing, named, numbered, looping, listing, refused_among, deep_among, takes_no_memory}
-use Rattle.forec_parser.proofs.StatementSteady.{maybe_length_steady, block_steady, stmt_steady}
+use Rattle.statement_parser.proofs.StatementSteady.{maybe_length_steady, block_steady, stmt_steady}
 
 signed_steady : {E : Type 0} → Steady E 0 items.signed items.signed
 unfolding items.signed items.negative_number

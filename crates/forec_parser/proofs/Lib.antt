@@ -1,17 +1,8 @@
-pub mod Lists
-pub mod Marks
-pub mod SimpleRules
-pub mod PartRules
-pub mod StatementSound
-pub mod StatementComplete
 pub mod ItemRules
 pub mod ItemSound
-pub mod StatementSteady
 pub mod ItemSteady
 pub mod ProgramLemmas
 pub mod Refusals
-pub mod ViableParts
-pub mod ViableStatements
 pub mod ViableItems
 pub mod ViablePrograms
 pub mod Stops

@@ -14,14 +14,14 @@ use Rattle.forec_tree.specs.Spelling.{at}
 use Rattle.forec_tree.specs.SpelledPrograms.{Signed, Table, SpellsCombine, Param, Params, Parameters, Introduces}
 use Rattle.expr_parser.specs.declared.fault.Fault.{Fault}
 use Rattle.expr_parser.specs.declared.fixed.Fixed.TheVariants as fixed
-use Rattle.forec_parser.specs.declared.meaning.Opening.{Opening}
-use Rattle.forec_parser.specs.declared.meaning.Opening.TheVariants as opening
-use Rattle.forec_parser.specs.declared.meaning.Declarator.{Declarator}
-use Rattle.forec_parser.specs.declared.meaning.Declarator.TheVariants as decl
+use Rattle.statement_parser.specs.declared.meaning.Opening.{Opening}
+use Rattle.statement_parser.specs.declared.meaning.Opening.TheVariants as opening
+use Rattle.statement_parser.specs.declared.meaning.Declarator.{Declarator}
+use Rattle.statement_parser.specs.declared.meaning.Declarator.TheVariants as decl
 use Rattle.expr_parser.specs.Input.{Input, kind_ahead}
 use Rattle.expr_parser.specs.Meaning.{is_fixed}
-use Rattle.forec_parser.specs.Meaning.{opening_of, token_policy}
-use Rattle.forec_parser.specs.Statements.{read_statement}
+use Rattle.statement_parser.specs.Meaning.{opening_of, token_policy}
+use Rattle.statement_parser.specs.Statements.{read_statement}
 use Rattle.forec_parser.specs.Items as it
 use Rattle.forec_parser.specs.Items.{combine_with}
 use Rattle.expr_parser.proofs.Closers.{kind_of}
@@ -30,15 +30,15 @@ use Rattle.expr_parser.proofs.Leaves.{token, a_name}
 use Rattle.expr_parser.proofs.Viable.{made, Least, Refused, Viable, refused_here, bind, map_to, convert, either_on, either_off, done_at}
 use Rattle.expr_parser.proofs.ViableLeaves.{part_keeps, token_keeps, list_keeps, token_at, taken_always, a_number, name_here, number_here, enclosing, commas}
 use Rattle.expr_parser.proofs.ViableLeaves as leaf
-use Rattle.forec_parser.proofs.SimpleRules.{a_list}
-use Rattle.forec_parser.proofs.PartRules.{maybe_length_by}
-use Rattle.forec_parser.proofs.StatementSound.{sound_stmt}
+use Rattle.statement_parser.proofs.SimpleRules.{a_list}
+use Rattle.statement_parser.proofs.PartRules.{maybe_length_by}
+use Rattle.statement_parser.proofs.StatementSound.{sound_stmt}
 use Rattle.forec_parser.proofs.ItemRules as ir
 use Rattle.forec_parser.proofs.ItemRules.{PolicyIs, policy_is, MaybeValue, IsItem, DeclaredAs}
 use Rattle.forec_parser.proofs.ItemSound as is'
 use Rattle.forec_parser.proofs.ItemSound.{Ints, SharedRest, FunctionRest, MoreGlobals, PlainRest, function_of, plain_of}
-use Rattle.forec_parser.proofs.ViableParts.{list_at, maybe_length_at}
-use Rattle.forec_parser.proofs.ViableStatements.{a_semicolon, block_at, viable_stmt}
+use Rattle.statement_parser.proofs.ViableParts.{list_at, maybe_length_at}
+use Rattle.statement_parser.proofs.ViableStatements.{a_semicolon, block_at, viable_stmt}
 
 -- the least policy
 abbrev an_all : Option TokenKind

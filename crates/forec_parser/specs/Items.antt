@@ -11,14 +11,14 @@ use Rattle.forec_tree.specs.declared.tree.GlobalKind.TheVariants as kind
 use Rattle.forec_tree.specs.Terms.{PlainItem, IsGlobal, IsFunction, Text}
 use Rattle.forec_tree.specs.Parts.{number_at, in_order, global_of}
 use Rattle.expr_parser.specs.declared.fixed.Fixed.TheVariants as fixed
-use Rattle.forec_parser.specs.declared.meaning.Opening.{Opening}
-use Rattle.forec_parser.specs.declared.meaning.Opening.TheVariants as opening
-use Rattle.forec_parser.specs.declared.meaning.Declarator.{Declarator}
-use Rattle.forec_parser.specs.declared.meaning.Declarator.TheVariants as declarator
+use Rattle.statement_parser.specs.declared.meaning.Opening.{Opening}
+use Rattle.statement_parser.specs.declared.meaning.Opening.TheVariants as opening
+use Rattle.statement_parser.specs.declared.meaning.Declarator.{Declarator}
+use Rattle.statement_parser.specs.declared.meaning.Declarator.TheVariants as declarator
 use Rattle.expr_parser.specs.Input.{Parser, ◌>>=◌, ◌>>◌, pure, refuse, kind_ahead, at_end, take}
-use Rattle.forec_parser.specs.Meaning.{opening_of, token_policy}
+use Rattle.statement_parser.specs.Meaning.{opening_of, token_policy}
 use Rattle.expr_parser.specs.Reading.{next_is, close, enclosed, name, read_number, separated}
-use Rattle.forec_parser.specs.Statements.{maybe_length, block, read_statement}
+use Rattle.statement_parser.specs.Statements.{maybe_length, block, read_statement}
 
 -- ---- values
 

@@ -10,15 +10,14 @@ ghost use Rattle.expr_parser.specs.Input.{Reads, max_level};
 ghost use Rattle.forec_parser.specs.Items as spec;
 ghost use Rattle.expr_parser.specs.Reading.{separated};
 
-use crate::meaning::{Declarator, Opening, opening_of, policy_of};
-use crate::parts;
-use crate::simple::maybe_length;
-use crate::statement::block;
 use crate::values::{maybe_value, maybe_values, values_by};
 use expr_parser::{Fault, Fixed, Tokens};
 use forec_base::Policy;
 use forec_tree::{Combine, Global as Variable, GlobalKind, Item, Name};
 use sqlite_items::Items;
+use statement_parser::{
+    Declarator, Opening, block, function_item, maybe_length, opening_of, policy_of,
+};
 use std::alloc::Global;
 
 /// More than the levels that the statements of a function have.
@@ -262,7 +261,7 @@ fn function(
     let params = parameters(alloc, tokens)?;
     let block = block(alloc, tokens, BLOCK_DEPTH)?;
     let mut found = Items::new(alloc);
-    found.push(parts::function(name, gives, params, block))?;
+    found.push(function_item(name, gives, params, block))?;
     Ok(found)
 }
 

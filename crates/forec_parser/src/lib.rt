@@ -3,10 +3,6 @@
 
 mod fault;
 mod item;
-mod meaning;
-mod parts;
-mod simple;
-mod statement;
 mod values;
 mod whole;
 

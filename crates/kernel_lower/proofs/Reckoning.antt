@@ -24,9 +24,9 @@ use Rattle.forec_tree.specs.Variables.{width, variables}
 use Rattle.forec_tree.proofs.VariableCounts.{variables_counted}
 use Rattle.text_sizes.specs.Spans.{span_value}
 use Rattle.text_kernel.specs.Limits.{amount, limit_of, earlier, IsWithinLimit, thread_words, thread_depth, widest}
-use Rattle.kernel_lower.specs.Measures.{CallsLow, HasWords}
-use Rattle.kernel_lower.specs.Reach.{value_at}
-use Rattle.kernel_lower.proofs.Measuring.{greatest_capped}
+use Rattle.kernel_drafts.specs.Measures.{CallsLow, HasWords}
+use Rattle.kernel_drafts.specs.Reach.{value_at}
+use Rattle.kernel_drafts.proofs.Measuring.{greatest_capped}
 use Rattle.text_chains.specs.Peaks.{called_words, most_words}
 use Rattle.text_chains.proofs.Combined.{greatest_above, count_has, count_below}
 use Rattle.kernel_lower.specs.declared.judge.Amounts.{Amounts}

@@ -1,9 +1,1 @@
-pub mod Puts
-pub mod Arguments
-pub mod Stepping
-pub mod Threads
-pub mod Loops
-pub mod Fates
 pub mod Running
-pub mod Transposed
-pub mod Marks

@@ -15,8 +15,8 @@ use Rattle.running_texts.specs.declared.meter.Halt.{Halt}
 use Rattle.running_texts.specs.declared.meter.Halt.TheVariants.{Trapped, Over, OutOfMemory}
 use Rattle.running_threads.specs.declared.threads.Thread as rust
 use Rattle.running_threads.specs.Views.{plain_running_thread, plain_status}
-use Rattle.kernel_meaning.specs.Moving.{IsThread, after_move}
-use Rattle.kernel_meaning.specs.Waking.{WokenTo}
+use Rattle.running_steps.specs.Moving.{IsThread, after_move}
+use Rattle.running_steps.specs.Waking.{WokenTo}
 use Rattle.kernel_meaning.specs.States.{Along, PassesBudget, CameTo, CarriesOn, Advances, told_tick}
 
 -- ---- one step more

@@ -1,4 +1,1 @@
-pub mod Marks
-pub mod Moving
-pub mod Waking
 pub mod States

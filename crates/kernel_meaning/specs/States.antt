@@ -6,7 +6,7 @@ use Rattle.forec_kernel.specs.declared.shape.KernelParts.{KernelParts}
 use Rattle.forec_kernel.specs.Shapes.{PlainKernel, plain_kernel}
 use Rattle.forec_kernel.specs.Texts as plain
 use Rattle.forec_kernel.specs.Texts.{uses_of}
-use Rattle.forec_kernel.specs.Steps.{Path, Move, thread_after, thread_move}
+use Rattle.forec_kernel.specs.Steps.{Path, thread_move}
 use Rattle.forec_kernel.specs.Ticks as ticks
 use Rattle.forec_kernel.specs.Ticks.{Going, steps_along, outcome_of, values_of, tick}
 use Rattle.forec_kernel.specs.declared.shape.Outcome.{Outcome}
@@ -14,25 +14,9 @@ use Rattle.forec_kernel.specs.declared.shape.Outcome.TheVariants as outcome
 use Rattle.running_texts.specs.declared.meter.Halt.{Halt}
 use Rattle.running_texts.specs.declared.meter.Halt.TheVariants.{Trapped, Over, OutOfMemory}
 use Rattle.running_threads.specs.declared.threads.Thread.{Thread}
-use Rattle.running_threads.specs.Views.{plain_running_thread, plain_status, focused}
-use Rattle.running_threads.specs.Moves.{plugged_move}
-use Rattle.kernel_meaning.specs.declared.moving.Step.{Step}
-use Rattle.kernel_meaning.specs.Moving.{Origin, origin, IsMoved, IsThread, after_move}
+use Rattle.running_threads.specs.Views.{plain_running_thread, plain_status}
+use Rattle.running_steps.specs.Moving.{IsThread, after_move}
 use Rattle.kernel_meaning.specs.declared.ticks.State.{State}
-
--- what a step of a thread's focus sees
-abbrev pub origin_of : List ℕ → Thread → Origin
-origin_of uses t = origin uses t.words.items t.copies.items (focused t.focus)
-
--- a thread after a step of its focus
-abbrev pub after_focus : Thread → Move → plain.Thread
-after_focus t m = thread_after (plain_running_thread t) (plugged_move t.frames.items t.words.items t.copies.items m)
-
--- what a thread comes to, and what is answered, where a step of its focus has come to this
-abbrev pub TakesStep : {A : Type 0} → List ℕ → Thread → Thread → Result Step Halt → Result A Halt → Type 0
-TakesStep uses t now step result =
-    (old new : ℕ) (m : Move) → IsMoved (origin_of uses t) old new step m →
-    IsThread old new (plain_running_thread now) result (after_move (plain_running_thread t) (plugged_move t.frames.items t.words.items t.copies.items m))
 
 abbrev pub main_state : Option Thread → ticks.TickState
 main_state None = ticks.Fresh

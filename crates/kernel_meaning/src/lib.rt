@@ -2,13 +2,7 @@
 //! gives the outcome, the outputs and the state that the definition gives.
 #![tactic(auto)]
 
-mod forks;
-mod joins;
-mod moving;
 mod orders;
-mod statements;
-mod steps;
 mod ticks;
-mod wakes;
 
 pub use ticks::{State, rewrite_tick};

@@ -7,16 +7,13 @@ ghost use Rattle.forec_kernel.specs.Values.{fresh_words};
 ghost use Rattle.forec_kernel.specs.Ticks as ticks;
 ghost use Rattle.forec_kernel.specs.Ticks.{begin, start_copies, unmarked, with_row, values_of, outcome_of};
 ghost use Rattle.running_threads.specs.Views.{plain_running_thread, plain_status};
-ghost use Rattle.kernel_meaning.specs.Waking.{WokenTo};
+ghost use Rattle.running_steps.specs.Waking.{WokenTo};
 ghost use Rattle.kernel_meaning.specs.States.{plain_state, Advances, CarriesOn, tick_of_state, told_tick, is_told};
 
-use crate::forks::start_body;
-use crate::moving::set_copy;
 use crate::orders::{add_path, steppable};
-use crate::steps::thread_step;
-use crate::wakes::wake_thread;
 use forec_base::OutOfMemory;
 use forec_kernel::{Kernel, KernelParts, Outcome, VarCopy, Variable};
+use running_steps::{set_copy, start_body, thread_step, wake_thread};
 use running_texts::{Halt, copy_value, thread_uses, thread_words, words_from};
 use running_threads::{Status, Thread, duplicate_thread, runs};
 use std::alloc::{AllocError, Global};

@@ -7,24 +7,19 @@ use Rattle.forec_base.specs.declared.Trap.{Trap}
 use Rattle.forec_kernel.specs.declared.terms.Spot.{Spot}
 use Rattle.forec_kernel.specs.declared.terms.Spot.TheVariants as spot
 use Rattle.forec_kernel.specs.declared.shape.VarCopy.{VarCopy}
-use Rattle.forec_kernel.specs.Terms.{Expr, Branch, Stmt, Nop, Set, SetAt, PutAt, Clear, Seq, If, While, Pause, Par, Enter, Return, Stmts, no_stmts, more_stmts}
+use Rattle.forec_kernel.specs.Terms.{Expr, Branch, Stmt, Nop, Set, SetAt, PutAt, Clear, Seq, If, While, Pause, Par, Enter, Return, Stmts}
 use Rattle.forec_kernel.specs.Shapes.{PlainKernel}
 use Rattle.forec_kernel.specs.Values.{Value, Gives, Raises, Values, AllGive, OneRaises, Setting, setting, Sight, vals, index_in, more_units, call}
-use Rattle.forec_kernel.specs.Texts.{Loop, After, Go_on, Again, Status, Running, Paused, Ended, Gone, Trapped, RunningText, Done, Run, Then, Turning, Resting, Fork, Held, Watch, Last, Threads, no_threads, child, child_of, text_of, texts_of, then_list, after_text, some_running, all_over, first_trap, ended_are_gone, uses_of, body_of, handed_down}
+use Rattle.forec_kernel.specs.Texts.{Loop, After, Status, Running, Paused, Ended, Gone, Trapped, RunningText, Done, Run, Then, Turning, Resting, Fork, Held, Watch, Last, Threads, no_threads, child, child_of, text_of, texts_of, after_text, some_running, all_over, first_trap, ended_is_gone, ended_are_gone, uses_of, body_of, handed_down}
 use Rattle.forec_kernel.specs.Combining.{Share, Joint, fold_calls, variable_calls, combine_of, variable_of, part_of, joint_calls, calls_from, calls_at, count_threads, calls_in_order, Cost, Costs, Fails, more_cost, cost_of, join_cost}
 use Rattle.forec_kernel.specs.Steps.{Path, Owner, evaluated, Move, Finished, Halts, Moves, Traps, more_move, move_with, assigned, assigned_at, shared_at, turned_loop, entered_abort, Arguments, Ready, Refused, one_more_list, arguments_then, arguments, started, forked, statement_move, loop_move, combined, joined, move_before, move_watched, move_last, thread_after, child_place, path_below, text_move, child_move, Woken, Wakes, Stays, more_woken, woken_in, woken_with, refilled, watched_on, text_if, status_of, woken, woken_children}
+use Rattle.value_ranges.proofs.RunningTexts.{LoopHolds, AfterHolds, RunningHolds, ThreadsHold, text_holds, texts_hold, after_holds, gone_hold, chosen_holds, entered_holds, refilled_holds}
 use Rattle.value_ranges.proofs.Lists.{all_get, all_append}
-use Rattle.log_ranges.specs.Places.{IsPlace, ExprPlaces, BranchesPlaces, StmtPlaces, StmtsPlaces, KernelPlaces}
+use Rattle.log_ranges.specs.Places.{IsPlace, places, KernelPlaces}
+use Rattle.log_ranges.proofs.Places.{ExprPlaces, BranchesPlaces, StmtPlaces, StmtsPlaces}
 use Rattle.log_ranges.proofs.Values.{ValuePlaces, ValuesPlaces, more_places, CallsPlaces, val_places, vals_places, kernel_places}
 
 -- ---- running texts
-
-abbrev LoopPlaces : Loop → Type 0
-LoopPlaces loop = ExprPlaces loop.test × StmtPlaces loop.body × IsPlace loop.place
-
-abbrev AfterPlaces : After → Type 0
-AfterPlaces (Go_on list) = StmtsPlaces list
-AfterPlaces (Again loop) = LoopPlaces loop
 
 abbrev pub StatusPlace : Status → Type 0
 StatusPlace Running = Unit {0}
@@ -33,60 +28,48 @@ StatusPlace Ended = Unit {0}
 StatusPlace Gone = Unit {0}
 StatusPlace (Trapped place trap) = IsPlace place
 
-abbrev mutual
-  pub TextPlaces : RunningText → Type 0
-  TextPlaces Done = Unit {0}
-  TextPlaces (Run s) = StmtPlaces s
-  TextPlaces (Then R a) = TextPlaces R × AfterPlaces a
-  TextPlaces (Turning loop) = LoopPlaces loop
-  TextPlaces Resting = Unit {0}
-  TextPlaces (Fork cs) = ThreadsPlaces cs
-  TextPlaces (Held cs) = ThreadsPlaces cs
-  TextPlaces (Watch weak e R) = ExprPlaces e × TextPlaces R
-  TextPlaces (Last R) = TextPlaces R
+gone_place : (st : Status) → StatusPlace st → StatusPlace (ended_is_gone st)
+gone_place Running h = tt
+gone_place Paused h = tt
+gone_place Ended h = tt
+gone_place Gone h = tt
+gone_place (Trapped place trap) h = h
 
-  pub ThreadsPlaces : Threads → Type 0
-  ThreadsPlaces no_threads = Unit {0}
-  ThreadsPlaces (child t R w c st rest) = TextPlaces R × StatusPlace st × ThreadsPlaces rest
+abbrev OwnPlace : List ℤ → List VarCopy → Status → Type 0
+OwnPlace w c st = StatusPlace st
 
-then_list_places : (R : RunningText) (rest : Stmts) → TextPlaces R → StmtsPlaces rest → TextPlaces (then_list R rest)
-then_list_places R no_stmts h g = h
-then_list_places R (more_stmts s rest) h g = (h, g)
+abbrev LoopPlaces : Loop → Type 0
+LoopPlaces = LoopHolds places
 
-mutual
-  pub text_places : (s : Stmt) → StmtPlaces s → TextPlaces (text_of s)
-  text_places Nop h = tt
-  text_places (Set to e) h = h
-  text_places (SetAt slot n i e place) h = h
-  text_places (PutAt v n i e place) h = h
-  text_places (Clear slot n) h = h
-  text_places (Seq list) h = texts_places list h
-  text_places (If e a b) h = h
-  text_places (While e bound body place) h = h
-  text_places Pause h = h
-  text_places (Par branches) h = h
-  text_places (Enter weak immediate e body) h = h
-  text_places (Return e) h = h
+abbrev AfterPlaces : After → Type 0
+AfterPlaces = AfterHolds places
 
-  texts_places : (list : Stmts) → StmtsPlaces list → TextPlaces (texts_of list)
-  texts_places no_stmts h = tt
-  texts_places (more_stmts s rest) h = then_list_places (text_of s) rest (text_places s h.0) h.1
+abbrev pub TextPlaces : RunningText → Type 0
+TextPlaces = RunningHolds places OwnPlace
+
+abbrev pub ThreadsPlaces : Threads → Type 0
+ThreadsPlaces = ThreadsHold places OwnPlace
+
+pub text_places : (s : Stmt) → StmtPlaces s → TextPlaces (text_of s)
+text_places = text_holds places OwnPlace
+
+texts_places : (list : Stmts) → StmtsPlaces list → TextPlaces (texts_of list)
+texts_places = texts_hold places OwnPlace
 
 after_places : (a : After) → AfterPlaces a → TextPlaces (after_text a)
-after_places (Go_on list) h = texts_places list h
-after_places (Again loop) h = h
-
-gone_status : (st : Status) → StatusPlace st → (rest : Threads) → (t : ℕ) (R : RunningText) (w : List ℤ) (c : List VarCopy) → TextPlaces R → ThreadsPlaces (ended_are_gone rest) →
-    ThreadsPlaces (ended_are_gone (child t R w c st rest))
-gone_status Running h rest t R w c f g = (f, tt, g)
-gone_status Paused h rest t R w c f g = (f, tt, g)
-gone_status Ended h rest t R w c f g = (f, tt, g)
-gone_status Gone h rest t R w c f g = (f, tt, g)
-gone_status (Trapped place trap) h rest t R w c f g = (f, h, g)
+after_places = after_holds places OwnPlace
 
 gone_places : (cs : Threads) → ThreadsPlaces cs → ThreadsPlaces (ended_are_gone cs)
-gone_places no_threads h = tt
-gone_places (child t R w c st rest) h = gone_status st h.1 rest t R w c h.0 (gone_places rest h.2)
+gone_places = gone_hold places OwnPlace (λ w c st h. gone_place st h)
+
+chosen_places : (b : Bool) (R S : RunningText) → TextPlaces R → TextPlaces S → TextPlaces (cond b R S)
+chosen_places = chosen_holds places OwnPlace
+
+entered_places : (weak : Bool) (e : Expr) (body : Stmt) (n : ℤ) → ExprPlaces e → StmtPlaces body → TextPlaces (entered_abort weak e body n)
+entered_places = entered_holds places OwnPlace
+
+refilled_places : (a : After) → AfterPlaces a → AfterPlaces (refilled a)
+refilled_places = refilled_holds places
 
 -- ---- moves
 
@@ -105,15 +88,6 @@ more_move_places u (Traps place trap v) h = h
 with_places : (v : Value) (go : ℤ → Move) → ValuePlaces v → ((n : ℤ) → MovePlaces (go n)) → MovePlaces (move_with v go)
 with_places (Gives n u) go h g = more_move_places u (go n) (g n)
 with_places (Raises place trap u) go h g = h
-
-chosen_places : (b : Bool) (R S : RunningText) → TextPlaces R → TextPlaces S → TextPlaces (cond b R S)
-chosen_places true R S h g = h
-chosen_places false R S h g = g
-
-entered_places : (weak : Bool) (e : Expr) (body : Stmt) (n : ℤ) → ExprPlaces e → StmtPlaces body → TextPlaces (entered_abort weak e body n)
-entered_places false e body n h g = chosen_places (is_zero n) (Watch false e (text_of body)) Done (h, text_places body g) tt
-entered_places true e body n h g =
-    chosen_places (is_zero n) (Watch true e (text_of body)) (Last (text_of body)) (h, text_places body g) (text_places body g)
 
 turned_places : (loop : Loop) (left : Option ℕ) (words : List ℤ) (copies : List VarCopy) → LoopPlaces loop → MovePlaces (turned_loop loop left words copies)
 turned_places loop None words copies h = (text_places loop.body h.1, h)
@@ -381,10 +355,6 @@ module _ (k : PlainKernel) (places : KernelPlaces k) where
   woken_with_places : (v : Value) (go : ℤ → Woken) → ValuePlaces v → ((n : ℤ) → WokenPlaces (go n)) → WokenPlaces (woken_with v go)
   woken_with_places (Gives n u) go f h = more_woken_places u (go n) (h n)
   woken_with_places (Raises place trap u) go f h = f
-
-  refilled_places : (a : After) → AfterPlaces a → AfterPlaces (refilled a)
-  refilled_places (Go_on list) h = h
-  refilled_places (Again loop) h = h
 
   either_woken : (b : Bool) (r s : Woken) → WokenPlaces r → WokenPlaces s → WokenPlaces (cond b r s)
   either_woken true r s h g = h

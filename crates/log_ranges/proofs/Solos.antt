@@ -53,12 +53,12 @@ ThreadsGood cs = ThreadsFit cs × ThreadsPlaces cs
 erased_children : (cs : Threads) → ThreadsGood cs → ThreadsGood (erased_threads cs)
 erased_children no_threads h = (tt, tt)
 erased_children (child t R w c Running rest) h =
-    let g = erased_children rest (h.0.3, h.1.2) in ((h.0.0, h.0.1, h.0.2, g.0), (h.1.0, h.1.1, g.1))
-erased_children (child t R w c Paused rest) h = let g = erased_children rest (h.0.3, h.1.2) in ((tt, tt, h.0.2, g.0), (tt, tt, g.1))
-erased_children (child t R w c Ended rest) h = let g = erased_children rest (h.0.3, h.1.2) in ((tt, tt, h.0.2, g.0), (tt, tt, g.1))
-erased_children (child t R w c Gone rest) h = let g = erased_children rest (h.0.3, h.1.2) in ((tt, tt, h.0.2, g.0), (tt, tt, g.1))
+    let g = erased_children rest (h.0.2, h.1.2) in ((h.0.0, h.0.1, g.0), (h.1.0, h.1.1, g.1))
+erased_children (child t R w c Paused rest) h = let g = erased_children rest (h.0.2, h.1.2) in ((tt, (tt, h.0.1.1), g.0), (tt, tt, g.1))
+erased_children (child t R w c Ended rest) h = let g = erased_children rest (h.0.2, h.1.2) in ((tt, (tt, h.0.1.1), g.0), (tt, tt, g.1))
+erased_children (child t R w c Gone rest) h = let g = erased_children rest (h.0.2, h.1.2) in ((tt, (tt, h.0.1.1), g.0), (tt, tt, g.1))
 erased_children (child t R w c (Trapped place trap) rest) h =
-    let g = erased_children rest (h.0.3, h.1.2) in ((tt, tt, tt, g.0), (tt, h.1.1, g.1))
+    let g = erased_children rest (h.0.2, h.1.2) in ((tt, (tt, tt), g.0), (tt, h.1.1, g.1))
 
 erased_good : (R : RunningText) → TextGood R → TextGood (erased R)
 erased_good Done h = h
@@ -102,25 +102,25 @@ with_good ds g (Watch weak e R) h = let f = with_good ds g R (h.0.1, h.1.1) in (
 with_good ds g (Last R) h = with_good ds g R h
 
 one_replied : (t : ℕ) (r : Reply) (rest : Threads) → HasReplyNumbers r → ThreadsGood rest → ThreadsGood (child_replied t r rest)
-one_replied t (WasPaused c u) rest h g = ((tt, tt, h.0, g.0), (tt, tt, g.1))
-one_replied t (WasEnded c u) rest h g = ((tt, tt, h.0, g.0), (tt, tt, g.1))
-one_replied t (WasTrapped place trap u) rest h g = ((tt, tt, tt, g.0), (tt, (h.1, h.2), g.1))
-one_replied t WasOver rest h g = ((tt, tt, tt, g.0), (tt, tt, g.1))
+one_replied t (WasPaused c u) rest h g = ((tt, (tt, h.0), g.0), (tt, tt, g.1))
+one_replied t (WasEnded c u) rest h g = ((tt, (tt, h.0), g.0), (tt, tt, g.1))
+one_replied t (WasTrapped place trap u) rest h g = ((tt, (tt, tt), g.0), (tt, (h.1, h.2), g.1))
+one_replied t WasOver rest h g = ((tt, (tt, tt), g.0), (tt, tt, g.1))
 
 replied_good : (cs : Threads) (rs : List Reply) → ThreadsGood cs → RepliesFit rs → ThreadsGood (all_replied cs rs)
 replied_good no_threads rs h g = h
 replied_good (child t R w c Running rest) [] h g =
-    let f = replied_good rest [] (h.0.3, h.1.2) tt in ((h.0.0, h.0.1, h.0.2, f.0), (h.1.0, h.1.1, f.1))
+    let f = replied_good rest [] (h.0.2, h.1.2) tt in ((h.0.0, h.0.1, f.0), (h.1.0, h.1.1, f.1))
 replied_good (child t R w c Running rest) (r ∷ rs) h g =
-    one_replied t r (all_replied rest rs) g.0 (replied_good rest rs (h.0.3, h.1.2) g.1)
+    one_replied t r (all_replied rest rs) g.0 (replied_good rest rs (h.0.2, h.1.2) g.1)
 replied_good (child t R w c Paused rest) rs h g =
-    let f = replied_good rest rs (h.0.3, h.1.2) g in ((h.0.0, h.0.1, h.0.2, f.0), (h.1.0, h.1.1, f.1))
+    let f = replied_good rest rs (h.0.2, h.1.2) g in ((h.0.0, h.0.1, f.0), (h.1.0, h.1.1, f.1))
 replied_good (child t R w c Ended rest) rs h g =
-    let f = replied_good rest rs (h.0.3, h.1.2) g in ((h.0.0, h.0.1, h.0.2, f.0), (h.1.0, h.1.1, f.1))
+    let f = replied_good rest rs (h.0.2, h.1.2) g in ((h.0.0, h.0.1, f.0), (h.1.0, h.1.1, f.1))
 replied_good (child t R w c Gone rest) rs h g =
-    let f = replied_good rest rs (h.0.3, h.1.2) g in ((h.0.0, h.0.1, h.0.2, f.0), (h.1.0, h.1.1, f.1))
+    let f = replied_good rest rs (h.0.2, h.1.2) g in ((h.0.0, h.0.1, f.0), (h.1.0, h.1.1, f.1))
 replied_good (child t R w c (Trapped place trap) rest) rs h g =
-    let f = replied_good rest rs (h.0.3, h.1.2) g in ((h.0.0, h.0.1, h.0.2, f.0), (h.1.0, h.1.1, f.1))
+    let f = replied_good rest rs (h.0.2, h.1.2) g in ((h.0.0, h.0.1, f.0), (h.1.0, h.1.1, f.1))
 
 -- ---- a thread by itself
 
@@ -229,11 +229,11 @@ module _ (k : PlainKernel) (numbers : KernelWords k) (places : KernelPlaces k) w
 
   seeds_fit : (woke : Bool) (cs : Threads) → ThreadsFit cs → SeedsFit (seeds_for k woke cs)
   seeds_fit woke no_threads h = tt
-  seeds_fit woke (child t R w c Running rest) h = seed_fits woke t w c (seeds_for k woke rest) h.1 h.2 (seeds_fit woke rest h.3)
-  seeds_fit woke (child t R w c Paused rest) h = seeds_fit woke rest h.3
-  seeds_fit woke (child t R w c Ended rest) h = seeds_fit woke rest h.3
-  seeds_fit woke (child t R w c Gone rest) h = seeds_fit woke rest h.3
-  seeds_fit woke (child t R w c (Trapped place trap) rest) h = seeds_fit woke rest h.3
+  seeds_fit woke (child t R w c Running rest) h = seed_fits woke t w c (seeds_for k woke rest) h.1.0 h.1.1 (seeds_fit woke rest h.2)
+  seeds_fit woke (child t R w c Paused rest) h = seeds_fit woke rest h.2
+  seeds_fit woke (child t R w c Ended rest) h = seeds_fit woke rest h.2
+  seeds_fit woke (child t R w c Gone rest) h = seeds_fit woke rest h.2
+  seeds_fit woke (child t R w c (Trapped place trap) rest) h = seeds_fit woke rest h.2
 
   view_is : (woke : Bool) (copies : List VarCopy) (st : Status) (fork : Option Threads) → CopiesFit copies → StatusPlace st → ForkGood fork → ViewGood (view_at k woke copies st fork)
   view_is woke copies Running None c p f = tt

@@ -11,7 +11,9 @@ use Rattle.forec_kernel.specs.Terms.{Expr, Num, Local, LocalAt, Var, SharedAt, T
 use Rattle.forec_kernel.specs.Shapes.{PlainKernel}
 use Rattle.forec_kernel.specs.Values.{word, copy_of, index_in, Value, Gives, Raises, more_units, value_then, Values, AllGive, OneRaises, one_more, first_then, values_then, Setting, setting, Sight, place_or, divided, at_index, val, vals, Flow, Goes, Returns, Breaks, more_flow, flow_with, flow_then, words_alone, stored_at, stored_flow, turns, flow, flows, flow_value, fresh_words, function_words, call_within}
 use Rattle.value_ranges.proofs.Lists.{all_get}
-use Rattle.log_ranges.specs.Places.{IsPlace, DividesAt, ExprPlaces, ExprsPlaces, StmtPlaces, StmtsPlaces, KernelPlaces}
+use Rattle.value_ranges.specs.Properties.{DividesAt}
+use Rattle.log_ranges.specs.Places.{IsPlace, places, KernelPlaces}
+use Rattle.log_ranges.proofs.Places.{ExprPlaces, ExprsPlaces, StmtPlaces, StmtsPlaces}
 
 -- ---- results
 
@@ -44,7 +46,7 @@ may_divide : (r : Option ℤ) (place : Option Place) → IsPlace (place_or place
 may_divide (Some n) place h = tt
 may_divide None place h = h
 
-operator_places : (op : Binary) (x y : ℤ) (place : Option Place) → DividesAt op place → ValuePlaces (divided (binary_of op x y) place)
+operator_places : (op : Binary) (x y : ℤ) (place : Option Place) → DividesAt places op place → ValuePlaces (divided (binary_of op x y) place)
 operator_places Add x y place h = tt
 operator_places Sub x y place h = tt
 operator_places Mul x y place h = tt

@@ -8,16 +8,16 @@ use Rattle.trace_rows.specs.Lines.{whole_lines}
 use Rattle.trace_rows.specs.Reader.{Reader, LacksLine, first_line}
 use Rattle.trace_rows.specs.SourceReads.{ReadsBytes, none, Lacks, Reading, TakesHead}
 use Rattle.trace_rows.specs.Trace.{header_at}
-use Rattle.trace_runs.specs.Ends.{GoesOn}
-use Rattle.trace_runs.specs.Formats.{opening}
-use Rattle.trace_runs.specs.KernelNames.{input_names}
-use Rattle.trace_runs.specs.Progress.{GoesOnFrom, Led, report_rest, turns_rest}
-use Rattle.trace_runs.specs.Report.{Report, printed_for, trace_report, trace_turns}
-use Rattle.trace_runs.specs.declared.format.Format.{Format}
-use Rattle.trace_runs.proofs.Asking.{lines_behind, reads_then}
-use Rattle.trace_runs.proofs.Heading.{Started, header_row, header_turns, printed_none, printed_rows}
-use Rattle.trace_runs.proofs.Splitting.{no_line, whole_lines-line, came_told, takes_told}
-use Rattle.trace_runs.proofs.Told.{told_both, told_map, told_some_both}
+use Rattle.trace_ticks.specs.Ends.{GoesOn}
+use Rattle.trace_ticks.specs.Formats.{opening}
+use Rattle.trace_ticks.specs.KernelNames.{input_names}
+use Rattle.trace_ticks.specs.Progress.{GoesOnFrom, Led, report_rest, turns_rest}
+use Rattle.trace_ticks.specs.Report.{Report, printed_for, trace_report, trace_turns}
+use Rattle.trace_ticks.specs.declared.format.Format.{Format}
+use Rattle.trace_ticks.proofs.Asking.{lines_behind, reads_then}
+use Rattle.trace_ticks.proofs.Heading.{Started, header_row, header_turns, printed_none, printed_rows}
+use Rattle.trace_ticks.proofs.Splitting.{no_line, whole_lines-line, came_told, takes_told}
+use Rattle.trace_ticks.proofs.Told.{told_both, told_map, told_some_both}
 use Rattle.log_runs.specs.RootWalks.{turns_come, turns_given}
 use Rattle.log_runs.proofs.LinesOver.{given_none, given_rows}
 

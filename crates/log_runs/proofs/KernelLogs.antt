@@ -17,8 +17,8 @@ use Rattle.log_runs.specs.Laws.{RunHasOneLog}
 use Rattle.log_runs.specs.RunLogs.{IsLogReport, Of_kept, Of_full, IsRunLog, logged_report, log_full, run_status}
 use Rattle.exchange_log.specs.Posted.{log_words_from, pair_words, log_words}
 use Rattle.log_runs.specs.declared.logging.TheConstants.{LOG_WORDS}
-use Rattle.trace_runs.specs.Report.{Report, trace_turns}
-use Rattle.trace_runs.specs.declared.status.Status.{Status}
+use Rattle.trace_ticks.specs.Report.{Report, trace_turns}
+use Rattle.trace_ticks.specs.declared.status.Status.{Status}
 
 -- ---- the branches of a kernel's threads
 

@@ -8,12 +8,12 @@ use Rattle.forec_kernel.specs.Shapes.{PlainKernel}
 use Rattle.forec_kernel.specs.Ticks.{TickState, Fresh, tick, goes_on}
 use Rattle.trace_rows.specs.Lines.{is_newline, tidy, all_but_last, on_parts, lines_of, whole_lines}
 use Rattle.trace_rows.specs.Trace.{Row, Form, Trace, behind, form_after, header_at, next_form, onto, row_at, rows_from, rows_of_lines, trace_of}
-use Rattle.trace_runs.specs.KernelNames.{input_names}
-use Rattle.trace_runs.specs.Report.{Pace, advance, turns_from, trace_turns}
-use Rattle.trace_runs.specs.Formats.{format_after}
-use Rattle.trace_runs.specs.declared.format.Format.{Format}
-use Rattle.trace_runs.proofs.Advancing.{turns_on, went_of}
-use Rattle.trace_runs.proofs.Splitting.{NoNewline, first_part}
+use Rattle.trace_ticks.specs.KernelNames.{input_names}
+use Rattle.trace_ticks.specs.Report.{Pace, advance, turns_from, trace_turns}
+use Rattle.trace_ticks.specs.Formats.{format_after}
+use Rattle.trace_ticks.specs.declared.format.Format.{Format}
+use Rattle.trace_ticks.proofs.Advancing.{turns_on, went_of}
+use Rattle.trace_ticks.proofs.Splitting.{NoNewline, first_part}
 use Rattle.log_runs.specs.ReplayRuns.{with_ends}
 use Rattle.log_runs.specs.RootWalks.{turns_over, turns_given}
 

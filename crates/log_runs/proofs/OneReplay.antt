@@ -21,7 +21,7 @@ use Rattle.log_text.specs.Laws.{TextHasOneLog}
 use Rattle.log_runs.specs.Laws.{RunHasOneReplay}
 use Rattle.log_runs.specs.ReplayRuns.{FailsLast, IsReplay, Of_no_log, Of_thread, Of_tick, Of_left, Of_same, differing, no_log, ticks_told}
 use Rattle.log_runs.proofs.KernelLogs.{below}
-use Rattle.trace_runs.specs.Report.{Report, trace_turns}
+use Rattle.trace_ticks.specs.Report.{Report, trace_turns}
 
 -- ---- the first bad line
 

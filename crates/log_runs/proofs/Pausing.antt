@@ -5,8 +5,8 @@ use Rattle.forec_kernel.specs.Shapes.{PlainKernel}
 use Rattle.forec_kernel.specs.Ticks.{TickState, Fresh, Tick, tick, goes_on}
 use Rattle.exchange_meaning.specs.LogOf.{AllButLastPause}
 use Rattle.trace_rows.specs.Trace.{Row}
-use Rattle.trace_runs.specs.Report.{turns_from, trace_turns}
-use Rattle.trace_runs.proofs.Advancing.{paused}
+use Rattle.trace_ticks.specs.Report.{turns_from, trace_turns}
+use Rattle.trace_ticks.proofs.Advancing.{paused}
 
 abbrev turn_at : ℕ → Row → TickInput
 turn_at budget row = record { row = row; budget = budget }

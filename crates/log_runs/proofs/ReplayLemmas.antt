@@ -13,11 +13,11 @@ use Rattle.log_text.specs.Fronts.{IsFirstBad, IsLogOf}
 use Rattle.log_text.specs.ReadLogs.{IsReadFrom}
 use Rattle.log_text.specs.declared.log.Log.{Log}
 use Rattle.log_runs.specs.ReplayRuns.{FailsLast, FailsLastIn, IsReplay, Of_no_log, Of_thread, ReplaysRows, differing, no_log}
-use Rattle.trace_runs.specs.Prints.{PrintsReport}
-use Rattle.trace_runs.specs.Report.{Report}
-use Rattle.trace_runs.specs.declared.status.Status.{Status}
-use Rattle.trace_runs.specs.declared.status.Status.TheVariants as status
-use Rattle.trace_runs.proofs.Printing.{prints_as, prints_nothing}
+use Rattle.trace_ticks.specs.Prints.{PrintsReport}
+use Rattle.trace_ticks.specs.Report.{Report}
+use Rattle.trace_ticks.specs.declared.status.Status.{Status}
+use Rattle.trace_ticks.specs.declared.status.Status.TheVariants as status
+use Rattle.trace_ticks.proofs.Printing.{prints_as, prints_nothing}
 
 -- ---- from a code to its kernel
 

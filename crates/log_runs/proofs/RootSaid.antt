@@ -3,12 +3,12 @@ use Rattle.std.proofs.Common.{◌≡◌, ◌≢◌, ◌≤◌, ℕ, suc, Bool, L
 use Rattle.std.specs.Io.KnownBytes.{Appends}
 use Rattle.forec_base.specs.Outside.{Fell}
 use Rattle.whole_writes.specs.Calls.{AppendsFront}
-use Rattle.trace_runs.specs.Ends.{IsOwn, Given}
-use Rattle.trace_runs.specs.Prints.{Prints, PrintsReport}
-use Rattle.trace_runs.specs.Report.{Report}
-use Rattle.trace_runs.specs.declared.status.Status.{Status}
-use Rattle.trace_runs.specs.declared.status.Status.TheVariants as status
-use Rattle.trace_runs.proofs.Running.{fell_since}
+use Rattle.trace_ticks.specs.Ends.{IsOwn, Given}
+use Rattle.trace_ticks.specs.Prints.{Prints, PrintsReport}
+use Rattle.trace_ticks.specs.Report.{Report}
+use Rattle.trace_ticks.specs.declared.status.Status.{Status}
+use Rattle.trace_ticks.specs.declared.status.Status.TheVariants as status
+use Rattle.trace_ticks.proofs.Running.{fell_since}
 use Rattle.whole_writes.proofs.Appending.{appends_both, front_behind}
 
 -- a line is said behind what was sent before, which is told by what is known

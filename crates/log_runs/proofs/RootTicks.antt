@@ -18,8 +18,8 @@ use Rattle.exchange_replay.specs.Rooted.{HasReplayed, HasTickedAs}
 use Rattle.exchange_replay.specs.declared.replayer.Replayer.{Replayer}
 use Rattle.log_text.specs.declared.log.Log.{Log}
 use Rattle.tick_jobs.specs.Outcomes.{HasOutputs, ComesTo}
-use Rattle.trace_runs.specs.Ticking.{tick_after}
-use Rattle.trace_runs.proofs.Running.{OnceMore}
+use Rattle.trace_ticks.specs.Ticking.{tick_after}
+use Rattle.trace_ticks.proofs.Running.{OnceMore}
 use Rattle.log_runs.specs.RootWalks.{IsHeldTo}
 
 went_so : (k : PlainKernel) (s : PlainShape) → s ≡ k.shape → (t : Tick) (r : Reply) (o : Outcome) (values : List ℤ) → MeansReply k t r → ComesTo s r o values →

@@ -14,18 +14,18 @@ use Rattle.trace_rows.specs.Reader.{Reader, HasLine, LacksLine, trace_ahead}
 use Rattle.trace_rows.specs.SourceReads.{ReadsBytes, none, more}
 use Rattle.trace_rows.specs.Trace.{Row, Trace, onto}
 use Rattle.whole_writes.specs.Calls.{AppendsFront}
-use Rattle.trace_runs.specs.Ends.{IsOwn}
-use Rattle.trace_runs.specs.Progress.{report_rest, turns_rest}
-use Rattle.trace_runs.specs.Report.{Report, status_after, turns_from}
-use Rattle.trace_runs.specs.declared.format.Format.{Format}
-use Rattle.trace_runs.specs.declared.status.Status.{Status}
-use Rattle.trace_runs.specs.declared.status.Status.TheVariants as status
-use Rattle.trace_runs.proofs.Asking.{Going, MayAsk, may_ask, turns_read}
-use Rattle.trace_runs.proofs.NextRows.{Gave}
-use Rattle.trace_runs.proofs.Running.{Is, Reached, Run, front_cut, printed_by, turn_of, whole_now}
-use Rattle.trace_runs.proofs.Splitting.{told_of}
+use Rattle.trace_ticks.specs.Ends.{IsOwn}
+use Rattle.trace_ticks.specs.Progress.{report_rest, turns_rest}
+use Rattle.trace_ticks.specs.Report.{Report, status_after, turns_from}
+use Rattle.trace_ticks.specs.declared.format.Format.{Format}
+use Rattle.trace_ticks.specs.declared.status.Status.{Status}
+use Rattle.trace_ticks.specs.declared.status.Status.TheVariants as status
+use Rattle.trace_ticks.proofs.Asking.{Going, MayAsk, may_ask, turns_read}
+use Rattle.trace_ticks.proofs.NextRows.{Gave}
+use Rattle.trace_ticks.proofs.Running.{Is, Reached, Run, front_cut, printed_by, turn_of, whole_now}
+use Rattle.trace_ticks.proofs.Splitting.{told_of}
 use Rattle.whole_writes.proofs.Appending.{front_behind}
-use Rattle.trace_runs.proofs.Told.{some_map, told_both, told_refl, told_some}
+use Rattle.trace_ticks.proofs.Told.{some_map, told_both, told_refl, told_some}
 use Rattle.log_runs.specs.RootWalks.{DiffersAt, HasWalked, RootRuns, WasCut}
 
 -- the status after the last tick is a report's own

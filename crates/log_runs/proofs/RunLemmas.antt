@@ -14,23 +14,23 @@ use Rattle.tick_jobs.specs.Ticks.{HasRun as Ran}
 use Rattle.core_seats.specs.Posts.{HasPosted, HasPostedTaken}
 use Rattle.core_host.specs.Hosted.{Hosted, code_of, IsWhole}
 use Rattle.core_host.specs.Owned.{HasOwnPort}
-use Rattle.core_host.specs.Runs.{HasJobs}
+use Rattle.core_host.specs.Runs.{HasJobs, HostHasRun}
 use Rattle.exchange_log.specs.Posted.{log_in, TicksAreLogged}
 use Rattle.log_runs.specs.Logging.{LogsItsTicks}
 use Rattle.log_runs.specs.RunLogs.{IsLogReport, IsTraceLog, LogsRows, run_status}
 use Rattle.log_runs.proofs.Pausing.{trace_pauses}
-use Rattle.trace_runs.specs.Ends.{IsOwn, ReadFor}
-use Rattle.trace_runs.specs.Hosting.{CodeFollows, HostFollows}
-use Rattle.trace_runs.specs.KernelNames.{run_format}
-use Rattle.trace_runs.specs.Led.{IsTold, RunsRows}
-use Rattle.trace_runs.specs.Prints.{Prints}
-use Rattle.trace_runs.specs.Report.{Report, trace_turns}
-use Rattle.trace_runs.specs.Ticking.{Starts}
-use Rattle.trace_runs.specs.declared.format.Format.{Format}
-use Rattle.trace_runs.specs.declared.format.Telling.TheVariants as telling
-use Rattle.trace_runs.specs.declared.status.Status.{Status}
-use Rattle.trace_runs.specs.declared.status.Status.TheVariants as status
-use Rattle.trace_runs.proofs.Printing.{prints_as, prints_nothing, prints_unread, told_is}
+use Rattle.trace_ticks.specs.Ends.{IsOwn, ReadFor}
+use Rattle.trace_ticks.specs.Following.{CodeFollows}
+use Rattle.trace_ticks.specs.KernelNames.{run_format}
+use Rattle.trace_ticks.specs.Led.{IsTold, RunsRows}
+use Rattle.trace_ticks.specs.Prints.{Prints}
+use Rattle.trace_ticks.specs.Report.{Report, trace_turns}
+use Rattle.trace_ticks.specs.Ticking.{Starts}
+use Rattle.trace_ticks.specs.declared.format.Format.{Format}
+use Rattle.trace_ticks.specs.declared.format.Telling.TheVariants as telling
+use Rattle.trace_ticks.specs.declared.status.Status.{Status}
+use Rattle.trace_ticks.specs.declared.status.Status.TheVariants as status
+use Rattle.trace_ticks.proofs.Printing.{prints_as, prints_nothing, prints_unread, told_is}
 use Rattle.trace_rows.specs.SourceReads.{none}
 
 -- a run that was not begun
@@ -80,15 +80,15 @@ module _ {S K Q : Type 0} (left : S → Option (List ℕ)) (faults : S → ℕ) 
   pub log_unkept : (out : K) → Logs out out status.NoMemory
   log_unkept out = record { prints = prints_nothing held lost is_down _ _ _ _ _ out out refl; trace = runs.trace }
 
-  module _ (h : Hosted) (own : IsOwn end) (logs : LogsItsTicks h) (follows : IfSome (left old) (λ x. HostFollows h k (trace_turns limit k units x))) where
-    followed : IfSome (left old) (λ x. HostFollows h k (trace_turns rows k budget x))
+  module _ (h : Hosted) (own : IsOwn end) (logs : LogsItsTicks h) (follows : IfSome (left old) (λ x. CodeFollows (code_of h) (HostHasRun h) k (trace_turns limit k units x))) where
+    followed : IfSome (left old) (λ x. CodeFollows (code_of h) (HostHasRun h) k (trace_turns rows k budget x))
     followed =
-        subst (λ (n : ℕ). IfSome (left old) (λ x. HostFollows h k (trace_turns n k budget x))) few
-        (subst (λ (b : ℕ). IfSome (left old) (λ x. HostFollows h k (trace_turns limit k b x))) same follows)
+        subst (λ (n : ℕ). IfSome (left old) (λ x. CodeFollows (code_of h) (HostHasRun h) k (trace_turns n k budget x))) few
+        (subst (λ (b : ℕ). IfSome (left old) (λ x. CodeFollows (code_of h) (HostHasRun h) k (trace_turns limit k b x))) same follows)
 
     is_log : (t : IsTold (left old)) (r : Report) → IsLogReport (code_of h).shape (log_in h.mail) end r → IsTraceLog rows k budget (left old) r
     is_log t r is =
-        let f = told_is (left old) (λ x. HostFollows h k (trace_turns rows k budget x)) t.0 followed t.1 in
+        let f = told_is (left old) (λ x. CodeFollows (code_of h) (HostHasRun h) k (trace_turns rows k budget x)) t.0 followed t.1 in
         let g = runs.prints.own own t in
         let read : t.0 ≡ g.1.0 = ap (λ (o : Option (List ℕ)). unwrap_or o []) (sym t.1 ∙ g.1.1) in
         let ends : end ≡ run_status rows k budget t.0 =

@@ -3,13 +3,13 @@ use Rattle.std.proofs.Common.{◌≡◌, ◌≢◌, ◌≤◌, ℕ, Bool, List, 
 use Rattle.std.specs.Io.KnownBytes.{Appends}
 use Rattle.forec_base.specs.Outside.{Fell}
 use Rattle.whole_writes.specs.Calls.{AppendsFront}
-use Rattle.trace_runs.specs.Ends.{IsOwn}
-use Rattle.trace_runs.specs.Prints.{PrintsReport}
-use Rattle.trace_runs.specs.Report.{Report}
-use Rattle.trace_runs.specs.declared.status.Status.{Status}
-use Rattle.trace_runs.specs.declared.status.Status.TheVariants as status
+use Rattle.trace_ticks.specs.Ends.{IsOwn}
+use Rattle.trace_ticks.specs.Prints.{PrintsReport}
+use Rattle.trace_ticks.specs.Report.{Report}
+use Rattle.trace_ticks.specs.declared.status.Status.{Status}
+use Rattle.trace_ticks.specs.declared.status.Status.TheVariants as status
 use Rattle.whole_writes.proofs.Appending.{appends_both, front_behind, front_longer}
-use Rattle.trace_runs.proofs.Printing.{prints_front}
+use Rattle.trace_ticks.proofs.Printing.{prints_front}
 
 fell_since : (before mid now : ℕ) (d : Bool) → before ≤ mid → Fell mid now d → Fell before now d
 fell_since before mid now d le f = let r = f.rose in record { rose = omega arith; down = f.down }

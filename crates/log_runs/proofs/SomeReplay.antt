@@ -14,12 +14,12 @@ use Rattle.exchange_meaning.specs.Replays.{RunsTicks}
 use Rattle.exchange_meaning.specs.Telling.{IsAll}
 use Rattle.trace_rows.specs.Trace.{Row}
 use Rattle.whole_writes.specs.Calls.{AppendsFront}
-use Rattle.trace_runs.specs.Formats.{format_after}
-use Rattle.trace_runs.specs.KernelNames.{run_format}
-use Rattle.trace_runs.specs.Report.{Report, lines_from, tick_lines, trace_report, trace_turns}
-use Rattle.trace_runs.specs.declared.format.Format.{Format}
-use Rattle.trace_runs.specs.declared.format.Telling.TheVariants as telling
-use Rattle.trace_runs.proofs.Advancing.{run_on, run_stops}
+use Rattle.trace_ticks.specs.Formats.{format_after}
+use Rattle.trace_ticks.specs.KernelNames.{run_format}
+use Rattle.trace_ticks.specs.Report.{Report, lines_from, tick_lines, trace_report, trace_turns}
+use Rattle.trace_ticks.specs.declared.format.Format.{Format}
+use Rattle.trace_ticks.specs.declared.format.Telling.TheVariants as telling
+use Rattle.trace_ticks.proofs.Advancing.{run_on, run_stops}
 use Rattle.whole_writes.proofs.Appending.{front_longer}
 use Rattle.exchange_meaning.proofs.OneMore.{pause_at}
 use Rattle.log_runs.specs.ReplayRuns.{AgreesText, IsReplay, Of_left, Of_same, Of_tick, difference_line, differing, replay_ok, ticks_told}

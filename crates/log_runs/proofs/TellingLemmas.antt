@@ -17,11 +17,11 @@ use Rattle.log_runs.specs.Logging.{CanTellLog}
 use Rattle.log_runs.specs.RunLogs.{IsLogReport, Of_kept, Of_full, log_full, logged_report}
 use Rattle.log_runs.specs.declared.logging.TheConstants.{LOG_WORDS}
 use Rattle.whole_writes.specs.Calls.{AppendsFront}
-use Rattle.trace_runs.specs.Ends.{IsOwn}
-use Rattle.trace_runs.specs.Prints.{Prints, PrintsReport}
-use Rattle.trace_runs.specs.declared.status.Status.{Status}
-use Rattle.trace_runs.specs.declared.status.Status.TheVariants as status
-use Rattle.trace_runs.proofs.Printing.{prints_as, prints_all, prints_front}
+use Rattle.trace_ticks.specs.Ends.{IsOwn}
+use Rattle.trace_ticks.specs.Prints.{Prints, PrintsReport}
+use Rattle.trace_ticks.specs.declared.status.Status.{Status}
+use Rattle.trace_ticks.specs.declared.status.Status.TheVariants as status
+use Rattle.trace_ticks.proofs.Printing.{prints_as, prints_all, prints_front}
 
 module _ (h : Hosted) (own : HasOwnPort h) (answered : IsAnswered h.mail) (p : Logging) (same : p.mail ≡ h.mail) where
   shape_is : (code_in_mail p.mail).shape ≡ (code_of h).shape

@@ -14,17 +14,17 @@ use Rattle.exchange_replay.specs.declared.replayer.Replayer.{Replayer}
 use Rattle.log_text.specs.Fronts.{IsLogOf}
 use Rattle.log_text.specs.declared.log.Log.{Log}
 use Rattle.trace_rows.specs.SourceReads.{ReadsBytes, none}
-use Rattle.trace_runs.specs.KernelNames.{run_format}
-use Rattle.trace_runs.specs.Led.{IsTold}
-use Rattle.trace_runs.specs.Prints.{PrintsReport}
-use Rattle.trace_runs.specs.Report.{Report, trace_report, trace_turns}
-use Rattle.trace_runs.specs.declared.format.Format.{Format}
-use Rattle.trace_runs.specs.declared.format.Telling.TheVariants as telling
-use Rattle.trace_runs.specs.declared.status.Status.{Status}
-use Rattle.trace_runs.specs.declared.status.Status.TheVariants as status
-use Rattle.trace_runs.proofs.Asking.{reads_then}
-use Rattle.trace_runs.proofs.Printing.{prints_front, prints_nothing, prints_unread, told_is}
-use Rattle.trace_runs.proofs.Told.{told_map}
+use Rattle.trace_ticks.specs.KernelNames.{run_format}
+use Rattle.trace_ticks.specs.Led.{IsTold}
+use Rattle.trace_ticks.specs.Prints.{PrintsReport}
+use Rattle.trace_ticks.specs.Report.{Report, trace_report, trace_turns}
+use Rattle.trace_ticks.specs.declared.format.Format.{Format}
+use Rattle.trace_ticks.specs.declared.format.Telling.TheVariants as telling
+use Rattle.trace_ticks.specs.declared.status.Status.{Status}
+use Rattle.trace_ticks.specs.declared.status.Status.TheVariants as status
+use Rattle.trace_ticks.proofs.Asking.{reads_then}
+use Rattle.trace_ticks.proofs.Printing.{prints_front, prints_nothing, prints_unread, told_is}
+use Rattle.trace_ticks.proofs.Told.{told_map}
 use Rattle.log_runs.specs.ReplayRuns.{AgreesText, IsReplay, IsTraceReplay, Of_left, Of_same, Of_tick, ReadForReplay, ReplaysRows, RunsOver, difference_line, differing, replay_ok, ticks_told}
 use Rattle.log_runs.specs.RootWalks.{HasWalked, IsHeldTo, MayRead, RootRuns, turns_given}
 use Rattle.log_runs.specs.declared.replaying.Walked.{Walked}

@@ -12,14 +12,14 @@ use Rattle.trace_rows.specs.Calls.{IfTold}
 use Rattle.trace_rows.specs.Report.{row_words}
 use Rattle.trace_rows.specs.SourceReads.{ReadsBytes}
 use Rattle.trace_rows.specs.declared.fault.RowFault.{RowFault}
-use Rattle.trace_runs.specs.Ends.{Wanted}
-use Rattle.trace_runs.specs.Formats.{opening, last_written}
-use Rattle.trace_runs.specs.Report.{Report, trace_report, trace_turns}
-use Rattle.trace_runs.specs.declared.format.Format.{Format}
-use Rattle.trace_runs.specs.declared.status.Status.{Status}
-use Rattle.trace_runs.specs.declared.status.Status.TheVariants as status
+use Rattle.trace_ticks.specs.Ends.{Wanted}
+use Rattle.trace_ticks.specs.Formats.{opening, last_written}
+use Rattle.trace_ticks.specs.Report.{Report, trace_report, trace_turns}
+use Rattle.trace_ticks.specs.declared.format.Format.{Format}
+use Rattle.trace_ticks.specs.declared.status.Status.{Status}
+use Rattle.trace_ticks.specs.declared.status.Status.TheVariants as status
 use Rattle.whole_writes.proofs.Appending.{appends_refl}
-use Rattle.trace_runs.proofs.Told.{some_map}
+use Rattle.trace_ticks.proofs.Told.{some_map}
 use Rattle.log_runs.specs.RootWalks.{EndsBy, GivenRuns, HasWalked, MayRead, WalkedTo}
 use Rattle.log_runs.specs.declared.replaying.Walked.{Walked}
 use Rattle.log_runs.specs.declared.replaying.Walked.TheVariants as walked

@@ -4,7 +4,7 @@ use Rattle.forec_kernel.specs.Shapes.{PlainKernel}
 use Rattle.forec_kernel.specs.WellFormed.{WellFormed}
 use Rattle.log_runs.specs.ReplayRuns.{IsReplay}
 use Rattle.log_runs.specs.RunLogs.{IsRunLog}
-use Rattle.trace_runs.specs.Report.{Report}
+use Rattle.trace_ticks.specs.Report.{Report}
 
 -- a kernel's run over a trace has one log at most
 abbrev pub RunHasOneLog : Type 0

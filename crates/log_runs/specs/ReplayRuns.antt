@@ -15,14 +15,14 @@ use Rattle.log_text.specs.Fronts.{IsFirstBad, IsLogOf}
 use Rattle.trace_rows.specs.Calls.{IfTold}
 use Rattle.trace_rows.specs.Lines.{whole_lines}
 use Rattle.trace_rows.specs.SourceReads.{ReadsBytes}
-use Rattle.trace_runs.specs.Ends.{Wanted, GoesOn}
-use Rattle.trace_runs.specs.KernelNames.{run_format}
-use Rattle.trace_runs.specs.Led.{IsTold}
-use Rattle.trace_runs.specs.Prints.{Prints}
-use Rattle.trace_runs.specs.Report.{Report, lines_from, trace_report, trace_turns}
-use Rattle.trace_runs.specs.declared.format.Telling.TheVariants as telling
-use Rattle.trace_runs.specs.declared.status.Status.{Status}
-use Rattle.trace_runs.specs.declared.status.Status.TheVariants as status
+use Rattle.trace_ticks.specs.Ends.{Wanted, GoesOn}
+use Rattle.trace_ticks.specs.KernelNames.{run_format}
+use Rattle.trace_ticks.specs.Led.{IsTold}
+use Rattle.trace_ticks.specs.Prints.{Prints}
+use Rattle.trace_ticks.specs.Report.{Report, lines_from, trace_report, trace_turns}
+use Rattle.trace_ticks.specs.declared.format.Telling.TheVariants as telling
+use Rattle.trace_ticks.specs.declared.status.Status.{Status}
+use Rattle.trace_ticks.specs.declared.status.Status.TheVariants as status
 
 -- ---- lines
 

@@ -18,13 +18,13 @@ use Rattle.trace_rows.specs.Lines.{whole_lines}
 use Rattle.trace_rows.specs.Reader.{Reader}
 use Rattle.trace_rows.specs.Trace.{Form, rows_from}
 use Rattle.whole_writes.specs.Calls.{AppendsFront}
-use Rattle.trace_runs.specs.Ends.{GoesOn, IsOwn}
-use Rattle.trace_runs.specs.Formats.{opening}
-use Rattle.trace_runs.specs.Progress.{GoesOnFrom}
-use Rattle.trace_runs.specs.Report.{Report, lines_from, trace_turns, turns_from}
-use Rattle.trace_runs.specs.declared.format.Format.{Format}
-use Rattle.trace_runs.specs.declared.status.Status.{Status}
-use Rattle.trace_runs.specs.declared.status.Status.TheVariants as status
+use Rattle.trace_ticks.specs.Ends.{GoesOn, IsOwn}
+use Rattle.trace_ticks.specs.Formats.{opening}
+use Rattle.trace_ticks.specs.Progress.{GoesOnFrom}
+use Rattle.trace_ticks.specs.Report.{Report, lines_from, trace_turns, turns_from}
+use Rattle.trace_ticks.specs.declared.format.Format.{Format}
+use Rattle.trace_ticks.specs.declared.status.Status.{Status}
+use Rattle.trace_ticks.specs.declared.status.Status.TheVariants as status
 use Rattle.log_runs.specs.ReplayRuns.{with_ends}
 use Rattle.log_runs.specs.declared.replaying.Walked.{Walked}
 use Rattle.log_runs.specs.declared.replaying.Walked.TheVariants as walked

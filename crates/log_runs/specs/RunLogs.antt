@@ -8,14 +8,14 @@ use Rattle.exchange_meaning.specs.LogOf.{LogOfTicks}
 use Rattle.exchange_log.specs.Posted.{log_words}
 use Rattle.log_runs.specs.declared.logging.TheConstants.{LOG_WORDS}
 use Rattle.trace_rows.specs.Calls.{IfTold}
-use Rattle.trace_runs.specs.Ends.{PrintedFor, ReadFor}
-use Rattle.trace_runs.specs.KernelNames.{run_format}
-use Rattle.trace_runs.specs.Led.{IsTold}
-use Rattle.trace_runs.specs.Prints.{Prints}
-use Rattle.trace_runs.specs.Report.{Report, trace_report, trace_turns}
-use Rattle.trace_runs.specs.declared.format.Telling.TheVariants as telling
-use Rattle.trace_runs.specs.declared.status.Status.{Status}
-use Rattle.trace_runs.specs.declared.status.Status.TheVariants as status
+use Rattle.trace_ticks.specs.Ends.{PrintedFor, ReadFor}
+use Rattle.trace_ticks.specs.KernelNames.{run_format}
+use Rattle.trace_ticks.specs.Led.{IsTold}
+use Rattle.trace_ticks.specs.Prints.{Prints}
+use Rattle.trace_ticks.specs.Report.{Report, trace_report, trace_turns}
+use Rattle.trace_ticks.specs.declared.format.Telling.TheVariants as telling
+use Rattle.trace_ticks.specs.declared.status.Status.{Status}
+use Rattle.trace_ticks.specs.declared.status.Status.TheVariants as status
 
 -- what is said of a log that needs more words than are kept
 abbrev pub log_full : Report

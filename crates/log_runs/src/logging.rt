@@ -7,8 +7,8 @@ ghost use Rattle.thread_code.specs.Alone.{Stands};
 ghost use Rattle.thread_code.specs.Plain.{plain_code};
 ghost use Rattle.core_host.specs.Hosted.{code_of};
 ghost use Rattle.exchange_log.specs.Posted.{log_in};
-ghost use Rattle.trace_runs.specs.Ends.{IsOwn};
-ghost use Rattle.trace_runs.specs.Prints.{Prints};
+ghost use Rattle.trace_ticks.specs.Ends.{IsOwn};
+ghost use Rattle.trace_ticks.specs.Prints.{Prints};
 ghost use Rattle.log_runs.specs.Logging.{LogsItsTicks};
 ghost use Rattle.log_runs.specs.RunLogs.{IsLogReport, LogsRows};
 
@@ -23,7 +23,7 @@ use forec_kernel::Kernel;
 use std::alloc::Global;
 use std::sync::Wait;
 use thread_code::Code;
-use trace_runs::{Company, Nobody, Session, Setting, Status, Telling, run, say};
+use trace_ticks::{Company, Nobody, Session, Setting, Status, Telling, run, say};
 
 /// How many words of what threads exchange are kept: a job needs 3 and one for each argument and copy, a reply 6 and two
 /// for each copy.

@@ -14,12 +14,12 @@ ghost use Rattle.log_text.specs.ReadLogs.{IsLogFor, IsReadFrom, HasPairs};
 ghost use Rattle.exchange_replay.specs.Rooted.{HasReplayed};
 ghost use Rattle.trace_rows.specs.Calls.{IfTold};
 ghost use Rattle.trace_rows.specs.SourceReads.{ReadsBytes};
-ghost use Rattle.trace_runs.specs.Ends.{IsOwn, Wanted};
-ghost use Rattle.trace_runs.specs.Prints.{PrintsReport};
-ghost use Rattle.trace_runs.specs.Progress.{Led, report_rest, turns_rest};
-ghost use Rattle.trace_runs.specs.Report.{trace_report, trace_turns};
-ghost use Rattle.trace_runs.specs.Sessions.{AreRowsOf, IsSessionOf};
-ghost use Rattle.trace_runs.specs.WaitingRoom.{HasRoomFor, GainsBytes};
+ghost use Rattle.trace_ticks.specs.Ends.{IsOwn, Wanted};
+ghost use Rattle.trace_ticks.specs.Prints.{PrintsReport};
+ghost use Rattle.trace_ticks.specs.Progress.{Led, report_rest, turns_rest};
+ghost use Rattle.trace_ticks.specs.Report.{trace_report, trace_turns};
+ghost use Rattle.trace_ticks.specs.Sessions.{AreRowsOf, IsSessionOf};
+ghost use Rattle.trace_ticks.specs.WaitingRoom.{HasRoomFor, GainsBytes};
 ghost use Rattle.log_runs.specs.ReplayRuns.{ReplaysRows, FailsLastIn, difference_line, differing, no_log};
 ghost use Rattle.log_runs.specs.RootWalks.{IsHeldTo, WalkedTo, EndsBy, ComesRun, GivenRuns, MayRead, MayReadFrom};
 ghost use Rattle.log_runs.specs.declared.replaying.Walked.TheVariants as walked;
@@ -32,7 +32,7 @@ use log_text::{Log, LogFault};
 use std::alloc::Global;
 use thread_code::Code;
 use trace_rows::{Next, RowFault, Rows};
-use trace_runs::{Session, Status, Telling, Waiting, last_status, send_due};
+use trace_ticks::{Session, Status, Telling, Waiting, last_status, send_due};
 
 /// The most bytes of a log that is replayed.
 pub const MAX_LOG_BYTES: usize = 134_217_728;

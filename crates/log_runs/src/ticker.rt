@@ -15,7 +15,7 @@ use std::alloc::Global;
 use std::marker::Model;
 use std::sync::Wait;
 use thread_code::Code;
-use trace_runs::{Company, Ticker};
+use trace_ticks::{Company, Ticker};
 
 /// A host that has all threads of a code, ticks by itself, and keeps what they exchange.
 #[derive(Drop)]
@@ -75,11 +75,12 @@ impl<'c> Logging<'c> {
 impl<'c> Ticker for Logging<'c> {
     ghost use Rattle.std.specs.Prelude.{◌≡◌, true};
     ghost use Rattle.core_host.specs.Hosted.{code_of, is_live};
-    ghost use Rattle.trace_runs.specs.Hosting.{HostFollows};
+    ghost use Rattle.core_host.specs.Runs.{HostHasRun};
+    ghost use Rattle.trace_ticks.specs.Following.{CodeFollows};
 
     ghost shape = { λ l. (code_of l).shape };
 
-    ghost follows = { λ l. HostFollows l };
+    ghost follows = { λ l. CodeFollows (code_of l) (HostHasRun l) };
 
     ghost live = { λ l. is_live l ≡ true };
 

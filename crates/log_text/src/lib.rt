@@ -18,8 +18,6 @@ mod lines;
 mod log;
 mod numbers;
 mod pieces;
-#[cfg(test)]
-mod rows;
 mod section;
 mod values;
 

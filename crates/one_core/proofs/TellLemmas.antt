@@ -1,7 +1,7 @@
 -- A thread is told one job more.
 use Rattle.std.proofs.Common.{◌≡◌, ◌≢◌, ℕ, suc, ◌<◌, cond, List, [], ◌∷◌, ◌++◌, length, refl, sym, ap, ◌∙◌, subst, append-nil, arith}
 use Rattle.std.specs.Prelude.{slice_get}
-use Rattle.forec_kernel.specs.Engine.{Job, Reply, Answered, Answers, pair_all, jobs_to}
+use Rattle.forec_kernel.specs.Engine.{Job, Reply, Answered, Answers, jobs_to}
 use Rattle.thread_code.specs.Plain.{PlainCode, plain_code}
 use Rattle.thread_code.specs.Valid.{IsValidCode}
 use Rattle.thread_code.specs.Alone.{CodeAlone}
@@ -9,6 +9,7 @@ use Rattle.core_machine.specs.declared.thread.Thread.{Thread}
 use Rattle.core_machine.specs.Threads.{Loaded}
 use Rattle.tick_jobs.specs.Branches.{IsBranchOf, AreAbove}
 use Rattle.tick_jobs.proofs.Lists.{by_equal}
+use Rattle.tick_jobs.proofs.DidLemmas.{did_for}
 use Rattle.tick_jobs.proofs.Pairs.{jobs_then, same_test, other_test, allowed_more}
 use Rattle.one_core.specs.Seats.{Seated, seated_code, HasAllSeats, KeepsSeatsBelow}
 use Rattle.tick_jobs.specs.Told.{Book}
@@ -33,15 +34,7 @@ pub told_keeps : (c : PlainCode) (t : ℕ) (a b : Book) (pairs : List Answered) 
 told_keeps c t a b pairs same h = record { above = h.above; allowed = h.allowed; jobs = λ k mine. h.jobs k mine ∙ sym (same k mine) }
 
 pub done_keeps : (c : PlainCode) (h : Thread) (a b : Book) (jobs : List Job) → ((k : ℕ) → IsBranchOf c.shape h.number k → b (suc k) ≡ a (suc k)) → HasDoneByBook c h a jobs → HasDoneByBook c h b jobs
-done_keeps c h a b jobs same d = record {
-  exchanges = d.exchanges;
-  outputs = d.outputs;
-  stands = d.stands;
-  jobs_are = d.jobs_are;
-  runs = d.runs;
-  complete = d.complete;
-  posts = told_keeps c h.number a b (pair_all d.exchanges d.outputs) same d.posts;
-}
+done_keeps c h a b jobs same d = did_for c h jobs d (λ pairs told. told_keeps c h.number a b pairs same told)
 
 pub rests_keeps : (s s' : Seated) (a b : Book) (j : ℕ) → s'.code ≡ s.code → slice_get s'.threads j ≡ slice_get s.threads j → b j ≡ a j → ((k : ℕ) → IsBranchOf (seated_code s).shape j k → b (suc k) ≡ a (suc k)) →
     Rests s a j → Rests s' b j

@@ -2,13 +2,14 @@
 
 ghost use Rattle.std.specs.Prelude.{◌≡◌, ◌<◌, IfOk, length};
 ghost use Rattle.thread_code.specs.Plain.{plain_code};
-ghost use Rattle.core_machine.specs.Room.{AreNeeds};
+ghost use Rattle.thread_rooms.specs.Room.{AreNeeds};
 ghost use Rattle.one_core.specs.Loads.{AreNew, IsNewThread};
 
-use core_machine::{Needs, Thread};
+use core_machine::Thread;
 use forec_base::OutOfMemory;
 use std::alloc::Global;
 use thread_code::Code;
+use thread_rooms::Needs;
 use tick_jobs::Boxed;
 
 /// Thread number `thread`, for its seat.

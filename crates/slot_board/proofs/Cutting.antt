@@ -16,7 +16,7 @@ use Rattle.copy_slots.specs.SeatEnds.{IsBoard, HasEnds, Watches}
 use Rattle.copy_slots.specs.Ports.{MailboxEnds, PortState, sender_in, taker_in, is_keeper, stored_of, stops_of}
 use Rattle.copy_slots.proofs.SeatEndLemmas.{role_is}
 use Rattle.copy_slots.proofs.PortLemmas.{set_at}
-use Rattle.copy_slots.proofs.Seating.{rewatches, snoc_cases}
+use Rattle.copy_slots.proofs.Seating.{map_map, rewatches, snoc_cases}
 use Rattle.slot_board.specs.declared.seats.EndSeats.{EndSeats}
 use Rattle.slot_board.specs.declared.seats.CoreSeats.{CoreSeats}
 use Rattle.slot_board.specs.Slots.{PairSits, AllPairs, sender_of, taker_of, pair_ends, is_watch}
@@ -76,10 +76,6 @@ same_maps f h [] [] e all = refl
 same_maps f h [] (y ∷ ys) e all = absurd (omega arith)
 same_maps f h (x ∷ xs) [] e all = absurd (omega arith)
 same_maps f h (x ∷ xs) (y ∷ ys) e all = λ i. all 0 x y refl refl i ∷ same_maps f h xs ys (omega arith) (λ k a b p q. all (suc k) a b p q) i
-
-map_both : {A B C : Type 0} (f : A → B) (h : B → C) (l : List A) → map h (map f l) ≡ map (λ a. h (f a)) l
-map_both f h [] = refl
-map_both f h (x ∷ xs) = ap (λ t. h (f x) ∷ t) (map_both f h xs)
 
 pub map_snoc : {A B : Type 0} (f : A → B) (l : List A) (a : A) → map f (l ++ a ∷ []) ≡ map f l ++ f a ∷ []
 map_snoc f [] a = refl
@@ -202,7 +198,7 @@ module _ {W P Q : Type 0} (z : TableId) (work : W) (blanks : List Q) where
         go false e = refl
 
     pub cut_ends : map pair_ends (map both_of mine) ≡ map (ends_of_core core) ends
-    cut_ends = map_both both_of pair_ends mine ∙ same_maps (λ (q : EndSeats W P Q). pair_ends (both_of q)) (ends_of_core core) mine ends (cut.mine_long ∙ waits.long)
+    cut_ends = map_map both_of pair_ends mine ∙ same_maps (λ (q : EndSeats W P Q). pair_ends (both_of q)) (ends_of_core core) mine ends (cut.mine_long ∙ waits.long)
         (λ k q e at here. let t = mine_from k q at in let same : t.0 ≡ e = some_is t.0 e (sym t.2 ∙ here) in
         ap (λ (s : EndSeats W P Q). pair_ends (both_of s)) t.4 ∙ subst (λ (d : ℕ × ℕ). pair_ends (both_of (taken_by_core core d t.1)) ≡ ends_of_core core e) (sym same)
         (let a = is_mine e.0 t.1.parent new_sender (λ n. waits.parent k e t.1 here t.3 n) in let b = is_my_child e.1 t.1.child new_taker (λ n. waits.child k e t.1 here t.3 n) in

@@ -1,8 +1,7 @@
 -- A port with a seat for each end.
-use Rattle.std.proofs.Common.{◌≡◌, ℕ, suc, zero, ◌<◌, List, [], ◌∷◌, length, map, set, sym, refl, ap, ◌∙◌, subst, ⊎_elim, arith, Option, Some, None, Bool, true, slice_get}
+use Rattle.std.proofs.Common.{◌≡◌, ℕ, List, map, set, sym, refl, ap, ◌∙◌, subst, ⊎_elim, Option, Some, None, Bool, true, slice_get}
 use Rattle.atomic_table.specs.Seated.{TableId}
 use Rattle.atomic_table.specs.declared.shared.Seat.{Seat}
-use Rattle.copy_slots.specs.declared.view.PacketAt.{PacketAt}
 use Rattle.copy_slots.specs.declared.view.Sender.{Sender}
 use Rattle.copy_slots.specs.declared.view.Taker.{Taker}
 use Rattle.copy_slots.specs.declared.view.Role.{Role}
@@ -11,44 +10,11 @@ use Rattle.copy_slots.specs.declared.view.View.{View}
 use Rattle.slot_board.specs.declared.seats.EndSeats.{EndSeats}
 use Rattle.copy_slots.specs.Mail.{role_checked, role_stopped}
 use Rattle.copy_slots.specs.SeatEnds.{HasEnds}
-use Rattle.copy_slots.specs.Ports.{MailboxEnds, PortState, parent_at, child_at, on_sender, on_taker, on_parent, on_child, IsParent, IsChild, sender_in, taker_in, is_keeper, stop_word, after_check, after_stop}
+use Rattle.copy_slots.specs.Ports.{MailboxEnds, PortState, on_sender, on_taker, on_parent, on_child, sender_in, taker_in, is_keeper, stop_word, after_check, after_stop}
 use Rattle.slot_board.specs.Slots.{PairSits, AllPairs, sender_of, taker_of, pair_ends, slot_state, is_watch}
 use Rattle.copy_slots.proofs.SeatEndLemmas.{role_is}
+use Rattle.copy_slots.proofs.EndLists.{all_ends, parent_moved, child_moved}
 use Rattle.copy_slots.proofs.Seating.{set_cases}
-
-module _ {A B Q : Type 0} (f : A → B) (h : B → MailboxEnds Q) where
-  abbrev pub all_ends : List A → List (MailboxEnds Q)
-  all_ends l = map h (map f l)
-
-  pub parent_inside : (l : List A) (k : ℕ) (p : PacketAt) → IsParent (parent_at (all_ends l) k) p → k < length l
-  parent_inside [] k p e = absurd e
-  parent_inside (a ∷ l) zero p e = omega arith
-  parent_inside (a ∷ l) (suc k) p e = let t = parent_inside l k p e in omega arith
-
-  pub child_inside : (l : List A) (k : ℕ) (b : Bool) → IsChild (child_at (all_ends l) k) b → k < length l
-  child_inside [] k b e = absurd e
-  child_inside (a ∷ l) zero b e = omega arith
-  child_inside (a ∷ l) (suc k) b e = let t = child_inside l k b e in omega arith
-
-  pub parent_is : (l : List A) (k : ℕ) (a : A) → slice_get l k ≡ Some a → parent_at (all_ends l) k ≡ (h (f a)).parent
-  parent_is [] k a e = absurd (cc)
-  parent_is (b ∷ l) zero a e = let same : b ≡ a = cc in ap (λ z. (h (f z)).parent) same
-  parent_is (b ∷ l) (suc k) a e = parent_is l k a e
-
-  pub child_is : (l : List A) (k : ℕ) (a : A) → slice_get l k ≡ Some a → child_at (all_ends l) k ≡ (h (f a)).child
-  child_is [] k a e = absurd (cc)
-  child_is (b ∷ l) zero a e = let same : b ≡ a = cc in ap (λ z. (h (f z)).child) same
-  child_is (b ∷ l) (suc k) a e = child_is l k a e
-
-  pub parent_moved : (l : List A) (k : ℕ) (a b : A) (g : Sender Q → Sender Q) → slice_get l k ≡ Some a → h (f b) ≡ (record { parent = on_sender g (h (f a)).parent; child = (h (f a)).child }) → all_ends (set l k b) ≡ on_parent (all_ends l) k g
-  parent_moved [] k a b g e is = absurd (cc)
-  parent_moved (c ∷ l) zero a b g e is = let same : c ≡ a = cc in ap (λ z. z ∷ all_ends l) is ∙ ap (λ z. on_parent (h (f z) ∷ all_ends l) zero g) (sym same)
-  parent_moved (c ∷ l) (suc k) a b g e is = ap (λ t. h (f c) ∷ t) (parent_moved l k a b g e is)
-
-  pub child_moved : (l : List A) (k : ℕ) (a b : A) (g : Taker Q → Taker Q) → slice_get l k ≡ Some a → h (f b) ≡ (record { parent = (h (f a)).parent; child = on_taker g (h (f a)).child }) → all_ends (set l k b) ≡ on_child (all_ends l) k g
-  child_moved [] k a b g e is = absurd (cc)
-  child_moved (c ∷ l) zero a b g e is = let same : c ≡ a = cc in ap (λ z. z ∷ all_ends l) is ∙ ap (λ z. on_child (h (f z) ∷ all_ends l) zero g) (sym same)
-  child_moved (c ∷ l) (suc k) a b g e is = ap (λ t. h (f c) ∷ t) (child_moved l k a b g e is)
 
 module _ {W P Q : Type 0} where
   abbrev pub both_of : EndSeats W P Q → Option (Seat (Option P) (View W Q)) × Option (Seat (Option P) (View W Q))
@@ -114,8 +80,3 @@ module _ {W P Q : Type 0} (z : TableId) (work : W) (blanks : List Q) (l : List (
   stopped_state (Idle ws) e = absurd (cc)
   stopped_state (Keeper from st ws) e = refl
   stopped_state (Mailbox k p c) e = absurd (cc)
-
-pub root_kept : {Q : Type 0} (role : Role Q) → is_keeper role ≡ true → (from : ℕ) × (st : Bool) × (ws : List ℕ) × (role ≡ Keeper from st ws)
-root_kept (Idle ws) e = absurd (cc)
-root_kept (Keeper from st ws) e = (from, st, ws, refl)
-root_kept (Mailbox k p c) e = absurd (cc)

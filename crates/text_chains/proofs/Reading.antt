@@ -1,5 +1,5 @@
 -- A name stands for a variable in lowered text where it is the variable's and no local hides it: by itself for a single one, with an index for an element.
-use Rattle.std.proofs.Common.{ℕ, ◌+◌, ◌<◌, ◌≡◌, ◌∙◌, ◌==◌, sym, ap, refl, subst, ℤ, Bool, true, false, cond, is_some, Option, Some, None, List, [], ◌∷◌, arith}
+use Rattle.std.proofs.Common.{ℕ, ◌+◌, ◌<◌, ◌≡◌, ◌∙◌, ◌==◌, sym, ap, refl, ℤ, Bool, true, false, cond, is_some, Option, Some, None, List, [], ◌∷◌, arith}
 use Rattle.std.proofs.lemmas.Bool.Decides.{nat_tests}
 use Rattle.forec_tree.specs.declared.tree.Number.{Number}
 use Rattle.forec_tree.specs.Terms.{Text, PlainItem, PlainGlobal, IsGlobal, IsFunction}
@@ -13,16 +13,10 @@ use Rattle.text_kernel.specs.declared.names.Stands.{Stands}
 use Rattle.text_kernel.specs.declared.names.Stands.TheVariants as st
 use Rattle.text_kernel.specs.Bindings.{number_among, variable_number, is_table, find_slot, slot_stands, item_stands, constant_stands, variable_stands, first_value}
 use Rattle.text_kernel.specs.Lowering.{stands, read_as, vars_in}
-use Rattle.text_kernel.proofs.VariableNumbers.{in_row, row_of, apart, width_of}
-use Rattle.text_kernel.proofs.Known.{first_of, first_id}
+use Rattle.text_kernel.proofs.SameGlobal.{same_global, constant_other, row_same}
 use Rattle.text_chains.specs.Tallies.{names, names_alone, names_indexed}
 use Rattle.text_chains.proofs.Parts.{seen}
 use Rattle.text_chains.proofs.Telling.{row_as}
-
-same_truth : (p q : Bool) → (p ≡ true → q ≡ true) → (q ≡ true → p ≡ true) → p ≡ q
-same_truth true q f k = sym (f refl)
-same_truth false true f k = k refl
-same_truth false false f k = refl
 
 module _ (text : Text) (g : PlainGlobal) (is_item : find_item g.name.id text ≡ Some (IsGlobal g)) (changes : is_constant g.kind ≡ false) (nth : ℕ) (is_one : nth < width g) where
   abbrev i : ℕ
@@ -36,41 +30,6 @@ module _ (text : Text) (g : PlainGlobal) (is_item : find_item g.name.id text ≡
 
   abbrev row : PlainGlobal → List ℕ
   row h = count_up (variable_number h.name.id text) (width h)
-
-  same_global : (id : ℕ) (h : PlainGlobal) → find_item id text ≡ Some (IsGlobal h) → (id == i) ≡ true → h ≡ g
-  same_global id h e d =
-      let is : id ≡ i = grind (arith, nat_tests) in
-      let one : Some (IsGlobal h) ≡ Some (IsGlobal g) = sym e ∙ (ap (λ n. find_item n text) is ∙ is_item) in cc
-
-  constant_other : (id : ℕ) (h : PlainGlobal) → find_item id text ≡ Some (IsGlobal h) → is_constant h.kind ≡ true → (id == i) ≡ false
-  constant_other id h e c = pick (id == i) refl
-    where
-      pick : (b : Bool) → (id == i) ≡ b → b ≡ false
-      pick false d = refl
-      pick true d =
-          let same = same_global id h e d in
-          let bad : true ≡ false = sym c ∙ (ap (λ (x : PlainGlobal). is_constant x.kind) same ∙ changes) in cc
-
-  -- the rows of two globals don't meet
-  row_same : (id : ℕ) (h : PlainGlobal) → find_item id text ≡ Some (IsGlobal h) → is_constant h.kind ≡ false → is_in v (row h) ≡ (id == i)
-  row_same id h e c = same_truth (is_in v (row h)) (id == i) left right
-    where
-      left : is_in v (row h) ≡ true → (id == i) ≡ true
-      left d =
-          let there = first_of id (IsGlobal h) text e in
-          let here_ = first_of i (IsGlobal g) text is_item in
-          let named = ap (λ n. variable_number n text) (first_id id (IsGlobal h) text there) in
-          let r = row_of v (variable_number h.name.id text) (width h) d in
-          let low = r.low in
-          let high = r.high in
-          let wide = width_of h c in
-          let own = width_of g changes in
-          let same : id ≡ i =
-          apart id i nth (IsGlobal h) (IsGlobal g) text there here_ (omega (arith, own, is_one)) (record { low = omega (arith, low, named); high = omega (arith, high, named, wide) }) in
-          grind (arith, nat_tests)
-
-      right : (id == i) ≡ true → is_in v (row h) ≡ true
-      right d = subst (λ x. is_in v (row x) ≡ true) (sym (same_global id h e d)) (in_row v (variable_number g.name.id text) (width g) (omega arith) (omega (arith, is_one)))
 
   -- an item that isn't a global is another than the variable's
   other_item : (id : ℕ) (it : Option PlainItem) → find_item id text ≡ it → ((h : PlainGlobal) → it ≡ Some (IsGlobal h) → ⊥) → (id == i) ≡ false
@@ -91,10 +50,10 @@ module _ (text : Text) (g : PlainGlobal) (is_item : find_item g.name.id text ≡
     other_name id e = sym (ap (way array) e ∙ no_way array)
 
     variable_named : (id : ℕ) (h : PlainGlobal) → find_item id text ≡ Some (IsGlobal h) → is_constant h.kind ≡ false → is_in v (f (variable_stands text h)) ≡ way array (id == i)
-    variable_named id h e c = own h ∙ (ap (way (is_some (stated_length h))) (row_same id h e c) ∙ pick (id == i) refl)
+    variable_named id h e c = own h ∙ (ap (way (is_some (stated_length h))) (row_same text g is_item changes nth is_one id h e c) ∙ pick (id == i) refl)
       where
         pick : (b : Bool) → (id == i) ≡ b → way (is_some (stated_length h)) b ≡ way array b
-        pick true d = ap (λ (x : PlainGlobal). way (is_some (stated_length x)) true) (same_global id h e d)
+        pick true d = ap (λ (x : PlainGlobal). way (is_some (stated_length x)) true) (same_global text g is_item id h e d)
         pick false d = no_way (is_some (stated_length h)) ∙ sym (no_way array)
 
     constant_named : (h : PlainGlobal) (o : Option Number) → f (elim o [ None ↦ st.AsNumber (first_value h.values) | Some n ↦ st.AsTable (number_among is_table h.name.id text) ]) ≡ []
@@ -103,7 +62,7 @@ module _ (text : Text) (g : PlainGlobal) (is_item : find_item g.name.id text ≡
 
     global_named : (id : ℕ) (h : PlainGlobal) (b : Bool) → find_item id text ≡ Some (IsGlobal h) → is_constant h.kind ≡ b →
         is_in v (f (cond b (constant_stands text h) (variable_stands text h))) ≡ way array (id == i)
-    global_named id h true e c = ap (is_in v) (constant_named h h.length) ∙ other_name id (constant_other id h e c)
+    global_named id h true e c = ap (is_in v) (constant_named h h.length) ∙ other_name id (constant_other text g is_item changes id h e c)
     global_named id h false e c = variable_named id h e c
 
     item_named : (id : ℕ) (it : Option PlainItem) → find_item id text ≡ it → is_in v (f (item_stands text it)) ≡ way array (id == i)

@@ -23,6 +23,7 @@ use Rattle.text_kernel.specs.Bindings.{with_local_slots, params_at, slots_of, nu
 use Rattle.text_kernel.specs.Lowering as low
 use Rattle.text_kernel.specs.Lowering.{read_as, element_as, stands, lower_term, lower_terms, sequence, ends_with, operated_expr, assign_to, assign_at, array_values, lower_local, lower_locals, slots_after, set_params, optional_test, lower_target, lower_statement, lower_list, lower_perhaps, lower_branches, scope_after, scope_after_perhaps, after_start, then_step, par_of, par_after, bound_of, or_inferred, param_names, vars_in, vars_all, vars_of, vars_list, vars_launches, vars_made, NextNumbers, Made, Lowered, Inlined, inlined_body, inlined_step, nothing_inlined}
 use Rattle.text_kernel.specs.Kernels.{filter_in}
+use Rattle.text_kernel.proofs.Called.{read_calls, element_calls}
 use Rattle.text_kernel.proofs.NamedVariables.{in_append, sequence_vars, ends_vars}
 use Rattle.text_kernel.proofs.Covered.{vars_append}
 use Rattle.text_kernel.proofs.Grown.{IsGrown, grows, list_grows, perhaps_grows, inlined_grows, sequence_pars}
@@ -39,24 +40,6 @@ use Rattle.text_chains.specs.Tallies.{plus, no_tally, naming_tally, call_tally, 
 abbrev pub row_as : Stands → List ℕ
 row_as (st.AsVariables v n) = count_up v n
 row_as _ = []
-
-read_calls : (x : Stands) → calls_of (read_as x) ≡ []
-read_calls (st.AtSlot slot) = refl
-read_calls (st.AtSlots slot size) = refl
-read_calls (st.AsVariable v) = refl
-read_calls (st.AsVariables v n) = refl
-read_calls (st.AsNumber n) = refl
-read_calls (st.AsTable t) = refl
-read_calls st.AsNothing = refl
-
-element_calls : (x : Stands) (e : Expr) (place : Place) → calls_of (element_as x e place) ≡ calls_of e
-element_calls (st.AtSlot slot) e place = refl
-element_calls (st.AtSlots slot size) e place = refl
-element_calls (st.AsVariable v) e place = refl
-element_calls (st.AsVariables v n) e place = refl
-element_calls (st.AsNumber n) e place = refl
-element_calls (st.AsTable t) e place = refl
-element_calls st.AsNothing e place = refl
 
 element_vars : (x : Stands) (e : Expr) (place : Place) → vars_in (element_as x e place) ≡ row_as x ++ vars_in e
 element_vars (st.AtSlot slot) e place = refl

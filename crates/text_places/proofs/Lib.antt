@@ -1,5 +1,2 @@
 pub mod Tokens
-pub mod Trees
-pub mod Spelled
-pub mod Lowered
 pub mod Whole

@@ -1,12 +1,11 @@
 -- The places of the tokens of a text.
-use Rattle.std.proofs.Common.{◌≡◌, ℕ, zero, suc, ◌+◌, ◌^◌, ◌<◌, ◌≤◌, sym, subst, Bool, true, false, List, [], ◌∷◌, ◌++◌, length, take, arith}
+use Rattle.std.proofs.Common.{ℕ, zero, suc, ◌+◌, ◌^◌, ◌<◌, ◌≤◌, subst, Bool, true, false, List, [], ◌∷◌, length, take, arith}
 use Rattle.std.specs.Prelude.{fold, if◌then◌else◌}
 use Rattle.std.specs.List.{AllByRecursion}
 use Rattle.forec_base.specs.declared.Place.{Place}
 use Rattle.forec_tree.specs.declared.token.Token.{Token}
 use Rattle.forec_tree.specs.Lexis.{is_line_end}
-use Rattle.forec_tree.specs.LexedText.{place_after, first_place, place_at, token_at, Cuts, begins, skips, takes, IsLexed}
-use Rattle.forec_tree.specs.Spelling.{Spelt, tokens}
+use Rattle.forec_tree.specs.LexedText.{place_after, first_place, place_at, token_at, Cuts, begins, skips, takes}
 use Rattle.value_ranges.proofs.Lists.{all_append}
 use Rattle.log_ranges.specs.Places.{IsPlace}
 
@@ -46,44 +45,9 @@ place_is text small at =
     let c = near.column_from in
     let d = near.column_to in ((a, omega (arith, b, few, small)), (c, omega (arith, d, few, small)))
 
-cuts_places : {text : List ℕ} {ts : List Token} {names : List (List ℕ)} {at : ℕ} → suc (length text) < 2 ^ 32 → Cuts text ts names at →
+pub cuts_places : {text : List ℕ} {ts : List Token} {names : List (List ℕ)} {at : ℕ} → suc (length text) < 2 ^ 32 → Cuts text ts names at →
     AllByRecursion (λ (t : Token). IsPlace t.place) ts
 cuts_places small begins = tt
 cuts_places small (skips n c x) = cuts_places small c
 cuts_places {text} small (takes {tokens = ts} {at = at} p n k c x e) =
     all_append (λ (t : Token). IsPlace t.place) ts (token_at text at n k ∷ []) (cuts_places small c) (place_is text small at, tt)
-
--- ---- tokens with their levels
-
-abbrev AllPlaces : List Spelt → Type 0
-AllPlaces = AllByRecursion (λ (s : Spelt). IsPlace s.token.place)
-
-pub record SpeltPlaces (ls : List Spelt) : Type 0 where
-  pub each : AllPlaces ls
-
-each_place : (ls : List Spelt) → AllByRecursion (λ (t : Token). IsPlace t.place) (tokens ls) → AllPlaces ls
-each_place [] h = tt
-each_place (s ∷ ls) h = (h.0, each_place ls h.1)
-
-pub lexed_places : (bytes : List ℕ) (ts : List Token) (names : List (List ℕ)) (ls : List Spelt) → suc (length bytes) < 2 ^ 32 → IsLexed bytes ts names →
-    tokens ls ≡ ts → SpeltPlaces ls
-lexed_places bytes ts names ls small h e =
-    record { each = each_place ls (subst (AllByRecursion (λ (t : Token). IsPlace t.place)) (sym e) (cuts_places small h.lexes.cuts)) }
-
--- those after the first
-pub behind : {s : Spelt} {ls : List Spelt} → SpeltPlaces (s ∷ ls) → SpeltPlaces ls
-behind h = record { each = h.each.1 }
-
-left_places : (ls rs : List Spelt) → AllPlaces (ls ++ rs) → AllPlaces ls
-left_places [] rs h = tt
-left_places (s ∷ ls) rs h = (h.0, left_places ls rs h.1)
-
-right_places : (ls rs : List Spelt) → AllPlaces (ls ++ rs) → AllPlaces rs
-right_places [] rs h = h
-right_places (s ∷ ls) rs h = right_places ls rs h.1
-
-pub front : (ls rs : List Spelt) → SpeltPlaces (ls ++ rs) → SpeltPlaces ls
-front ls rs h = record { each = left_places ls rs h.each }
-
-pub back : (ls rs : List Spelt) → SpeltPlaces (ls ++ rs) → SpeltPlaces rs
-back ls rs h = record { each = right_places ls rs h.each }

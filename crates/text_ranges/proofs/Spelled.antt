@@ -1,8 +1,7 @@
--- The numbers of a program that tokens spell fit 32 bits.
-use Rattle.std.proofs.Common.{ℕ, ◌+◌, ◌≤◌, Bool, Option, List, [], ◌∷◌, ◌++◌, map, length, FitsSigned, w32, length-append, arith}
+-- The numbers and places of a program that is spelled have what those of its tokens have.
+use Rattle.std.proofs.Common.{ℕ, ◌+◌, ◌≤◌, Bool, Option, List, [], ◌∷◌, ◌++◌, map, length, length-append, arith}
 use Rattle.std.specs.List.{AllByRecursion}
 use Rattle.forec_base.specs.declared.Place.{Place}
-use Rattle.forec_base.specs.declared.operators.Unary.TheVariants as un
 use Rattle.forec_tree.specs.declared.operators.Operator.{Operator}
 use Rattle.forec_tree.specs.declared.operators.Operator.TheVariants as oper
 use Rattle.forec_tree.specs.declared.token.Token.{Token}
@@ -17,224 +16,225 @@ use Rattle.forec_tree.specs.SpelledStatements.{Separated, last_part, next_part, 
 use Rattle.forec_tree.specs.SpelledStatements as says
 use Rattle.forec_tree.specs.SpelledPrograms.{Signed, positive, negative, Named, named, Scalar, unset, set, Table, constant, table, SharedVariable, Introduces, constants, inputs, outputs, globals, shared_globals, function, Programs, no_items, more_items, IsSpelled}
 use Rattle.forec_tree.specs.SpelledPrograms as spelled
-use Rattle.value_ranges.proofs.Numbers.{one_fits, unary_fits}
+use Rattle.value_ranges.specs.Properties.{Property}
 use Rattle.value_ranges.proofs.Lists.{all_append}
-use Rattle.text_ranges.proofs.Tokens.{SpeltFits, behind, front, back}
-use Rattle.text_ranges.proofs.Trees.{TermWords, TermsWords, OptionWords, DeclaredWords, StatementWords, StatementsWords, PerhapsWords, LaunchesWords, NumbersFit, ItemWords, TextWords}
+use Rattle.text_ranges.proofs.Tokens.{SpeltHolds, behind, front, back}
+use Rattle.text_ranges.proofs.Trees.{HasSmall, TermHolds, TermsHolds, OptionHolds, DeclaredHolds, StatementHolds, StatementsHolds, PerhapsHolds, LaunchesHolds, NumbersHold, ItemHolds, TextHolds}
 
--- ---- expressions
+module _ (has : Property) (ok : HasSmall has) where
+  -- ---- expressions
 
-joined_words : (op : Operator) (place : Place) (left right : Term) → TermWords left → TermWords right → TermWords (operator_term op place left right)
-joined_words oper.Or place left right h g = (h, g)
-joined_words oper.And place left right h g = (h, g)
-joined_words (oper.Computes op) place left right h g = (h, g)
+  joined_holds : (op : Operator) (place : Place) (left right : Term) → TermHolds has left → TermHolds has right → has.OfPlace place → TermHolds has (operator_term op place left right)
+  joined_holds oper.Or place left right h g p = (h, g)
+  joined_holds oper.And place left right h g p = (h, g)
+  joined_holds (oper.Computes op) place left right h g p = (h, g, p)
 
-mutual
-  spells_words : {n : ℕ} {e : Term} {v : ℕ} {ls : List Spelt} {w : ℕ} → Spells n e v ls w → SpeltFits ls → TermWords e
-  spells_words (number value is) h = h.each.0 value is
-  spells_words (read id is) h = tt
-  spells_words (element id is i) h = indexes_words i (behind h)
-  spells_words (spell.call id is p) h = passes_words p (behind h)
-  spells_words (bracketed b) h = brackets_words b h
-  spells_words (unary op l m p) h = spells_words p (behind h)
-  spells_words (binary {w = w} t {left = left} {right = right} {ls = ls} {rs = rs} op l a m b) h =
-      joined_words op t.place left right (spells_words a (front ls (at t (w + 1) ∷ rs) h)) (spells_words b (behind (back ls (at t (w + 1) ∷ rs) h)))
-  spells_words (choose {w = w} {x = x} t colon {ls = ls} {ms = ms} {rs = rs} l a m b n c) h =
-      let late = behind (back ls (at t (w + 1) ∷ (ms ++ (at colon x ∷ rs))) h) in (
-        spells_words a (front ls (at t (w + 1) ∷ (ms ++ (at colon x ∷ rs))) h),
-        spells_words b (front ms (at colon x ∷ rs) late),
-        spells_words c (behind (back ms (at colon x ∷ rs) late)),
+  mutual
+    spells_holds : {n : ℕ} {e : Term} {v : ℕ} {ls : List Spelt} {w : ℕ} → Spells n e v ls w → SpeltHolds has ls → TermHolds has e
+    spells_holds (number value is) h = h.each.0.number value is
+    spells_holds (read id is) h = tt
+    spells_holds (element id is i) h = (indexes_holds i (behind has h), h.each.0.place)
+    spells_holds (spell.call id is p) h = passes_holds p (behind has h)
+    spells_holds (bracketed b) h = brackets_holds b h
+    spells_holds (unary op l m p) h = spells_holds p (behind has h)
+    spells_holds (binary {w = w} t {left = left} {right = right} {ls = ls} {rs = rs} op l a m b) h =
+        joined_holds op t.place left right (spells_holds a (front has ls (at t (w + 1) ∷ rs) h)) (spells_holds b (behind has (back has ls (at t (w + 1) ∷ rs) h))) (back has ls (at t (w + 1) ∷ rs) h).each.0.place
+    spells_holds (choose {w = w} {x = x} t colon {ls = ls} {ms = ms} {rs = rs} l a m b n c) h =
+        let late = behind has (back has ls (at t (w + 1) ∷ (ms ++ (at colon x ∷ rs))) h) in (
+          spells_holds a (front has ls (at t (w + 1) ∷ (ms ++ (at colon x ∷ rs))) h),
+          spells_holds b (front has ms (at colon x ∷ rs) late),
+          spells_holds c (behind has (back has ms (at colon x ∷ rs) late)),
+        )
+
+    whole_holds : {e : Term} {v : ℕ} {ls : List Spelt} → Whole e v ls → SpeltHolds has ls → TermHolds has e
+    whole_holds (whole s) h = spells_holds s h
+
+    brackets_holds : {e : Term} {v : ℕ} {ls : List Spelt} → Brackets e v ls → SpeltHolds has ls → TermHolds has e
+    brackets_holds (brackets {v = v} right {ls = ls} m e n) h = whole_holds e (front has ls (at right v ∷ []) (behind has h))
+
+    indexes_holds : {e : Term} {v : ℕ} {ls : List Spelt} → SpellsIndex e v ls → SpeltHolds has ls → TermHolds has e
+    indexes_holds (indexes {v = v} right {ls = ls} m e n) h = whole_holds e (front has ls (at right v ∷ []) (behind has h))
+
+    passes_holds : {args : List Term} {v : ℕ} {ls : List Spelt} → SpellsArguments args v ls → SpeltHolds has ls → TermsHolds has (listed args)
+    passes_holds (passes_none m n) h = tt
+    passes_holds (passes {v = v} right {ls = ls} m a n) h = arguments_holds a (front has ls (at right v ∷ []) (behind has h))
+
+    arguments_holds : {args : List Term} {v : ℕ} {ls : List Spelt} → SpellsExpressions args v ls → SpeltHolds has ls → TermsHolds has (listed args)
+    arguments_holds (one e) h = (whole_holds e h, tt)
+    arguments_holds (more {v = v} comma {ls = ls} {rs = rs} e m a) h =
+        (whole_holds e (front has ls (at comma v ∷ rs) h), arguments_holds a (behind has (back has ls (at comma v ∷ rs) h)))
+
+  -- a comma stands between each two
+  arguments_few : {args : List Term} {v : ℕ} {ls : List Spelt} → SpellsExpressions args v ls → count_terms (listed args) ≤ length ls + 1
+  arguments_few (one e) = omega arith
+  arguments_few (more {v = v} comma {ls = ls} {rs = rs} e m a) = let n = arguments_few a in omega (arith, length-append ls (at comma v ∷ rs), n)
+
+  -- ---- parts with commas between them
+
+  module _ {A : Type 0} (Part : A → ℕ → List Spelt → Type 0) (P : A → Type 0) (each : (x : A) (v : ℕ) (ls : List Spelt) → Part x v ls → SpeltHolds has ls → P x) where
+    separated_holds : {xs : List A} {v : ℕ} {ls : List Spelt} → Separated Part xs v ls → SpeltHolds has ls → AllByRecursion P xs
+    separated_holds (last_part {v = v} {x = x} {ls = ls} p) h = (each x v ls p h, tt)
+    separated_holds (next_part {v = v} {x = x} comma {ls = ls} {rs = rs} p m rest) h =
+        (each x v ls p (front has ls (at comma v ∷ rs) h), separated_holds rest (behind has (back has ls (at comma v ∷ rs) h)))
+
+  -- ---- simple statements and declarations
+
+  targets_holds : {t : PlainTarget} {v : ℕ} {ls : List Spelt} → Targets t v ls → SpeltHolds has ls → OptionHolds has t.index × has.OfPlace t.name.place
+  targets_holds (scalar id n) h = (tt, h.each.0.place)
+  targets_holds (indexed id n i) h = (indexes_holds i (behind has h), h.each.0.place)
+
+  simple_holds : {x : Statement} {v : ℕ} {ls : List Spelt} → Simple x v ls → SpeltHolds has ls → StatementHolds has x
+  simple_holds (sets {v = v} t {ts = ts} {ls = ls} a m e) h =
+      (targets_holds a (front has ts (at t v ∷ ls) h), whole_holds e (behind has (back has ts (at t v ∷ ls) h)), tt)
+  simple_holds (updates {v = v} t {ts = ts} {ls = ls} op a m e) h =
+      let late = back has ts (at t v ∷ ls) h in (targets_holds a (front has ts (at t v ∷ ls) h), whole_holds e (behind has late), late.each.0.place)
+  simple_holds (steps_after {v = v} t {ts = ts} op a m) h = (targets_holds a (front has ts (at t v ∷ []) h), ok.small 1 (omega arith), (back has ts (at t v ∷ []) h).each.0.place)
+  simple_holds (steps_ahead op m a) h = (targets_holds a (behind has h), ok.small 1 (omega arith), h.each.0.place)
+  simple_holds (invokes id n p) h = passes_holds p (behind has h)
+
+  declares_holds : {d : Declared} {v : ℕ} {ls : List Spelt} → Declares d v ls → SpeltHolds has ls → DeclaredHolds has d
+  declares_holds (bare id n) h = record { values = tt; place = h.each.0.place; few = omega arith }
+  declares_holds (valued id n m e) h = record { values = (whole_holds e (behind has (behind has h)), tt); place = h.each.0.place; few = omega arith }
+  declares_holds (array id n l) h = record { values = tt; place = h.each.0.place; few = omega arith }
+  declares_holds (valued_array {v = v} equal left right {ls = ls} {rs = rs} id n l m c a d) h =
+      let inside = front has rs (at right v ∷ []) (behind has (behind has (back has ls (at equal v ∷ at left (v + 1) ∷ (rs ++ (at right v ∷ []))) (behind has h)))) in
+      let count = arguments_few a in
+      let few = inside.few in
+      record { values = arguments_holds a inside; place = h.each.0.place; few = omega arith }
+
+  start_holds : {s : Perhaps} {v : ℕ} {ls : List Spelt} → ForStarts s v ls → SpeltHolds has ls → PerhapsHolds has s
+  start_holds no_start h = tt
+  start_holds (simple_start x) h = simple_holds x h
+  start_holds (declared_start id w n m e) h = (record { values = (whole_holds e (behind has (behind has (behind has h))), tt); place = h.each.1.0.place; few = omega arith }, tt)
+
+  test_holds : {t : Option Term} {v : ℕ} {ls : List Spelt} → Tests t v ls → SpeltHolds has ls → OptionHolds has t
+  test_holds no_test h = tt
+  test_holds (some_test e) h = whole_holds e h
+
+  step_holds : {s : Perhaps} {v : ℕ} {ls : List Spelt} → ForSteps s v ls → SpeltHolds has ls → PerhapsHolds has s
+  step_holds no_step h = tt
+  step_holds (some_step x) h = simple_holds x h
+
+  abbrev HeadHolds : Head → Type 0
+  HeadHolds head = PerhapsHolds has head.start × OptionHolds has head.test × PerhapsHolds has head.step
+
+  parts_holds : {head : Head} {v : ℕ} {ls : List Spelt} → HeadParts head v ls → SpeltHolds has ls → HeadHolds head
+  parts_holds (head_parts {v = v} first second {ls = ls} {ms = ms} {rs = rs} s m t n e) h =
+      let late = behind has (back has ls (at first v ∷ (ms ++ (at second v ∷ rs))) h) in (
+        start_holds s (front has ls (at first v ∷ (ms ++ (at second v ∷ rs))) h),
+        test_holds t (front has ms (at second v ∷ rs) late),
+        step_holds e (behind has (back has ms (at second v ∷ rs) late)),
       )
 
-  whole_words : {e : Term} {v : ℕ} {ls : List Spelt} → Whole e v ls → SpeltFits ls → TermWords e
-  whole_words (whole s) h = spells_words s h
+  head_holds : {head : Head} {v : ℕ} {ls : List Spelt} → Heads head v ls → SpeltHolds has ls → HeadHolds head
+  head_holds (heads {v = v} right {ls = ls} m p n) h = parts_holds p (front has ls (at right v ∷ []) (behind has h))
 
-  brackets_words : {e : Term} {v : ℕ} {ls : List Spelt} → Brackets e v ls → SpeltFits ls → TermWords e
-  brackets_words (brackets {v = v} right {ls = ls} m e n) h = whole_words e (front ls (at right v ∷ []) (behind h))
+  -- ---- statements
 
-  indexes_words : {e : Term} {v : ℕ} {ls : List Spelt} → SpellsIndex e v ls → SpeltFits ls → TermWords e
-  indexes_words (indexes {v = v} right {ls = ls} m e n) h = whole_words e (front ls (at right v ∷ []) (behind h))
+  mutual
+    says_holds : {x : Statement} {o : Bool} {v u : ℕ} {ls : List Spelt} → SpellsStatement x o v u ls → SpeltHolds has ls → StatementHolds has x
+    says_holds (says.nothing m) h = tt
+    says_holds (acts {u = u} semicolon {ls = ls} s m) h = simple_holds s (front has ls (at semicolon u ∷ []) h)
+    says_holds (group b) h = block_holds b h
+    says_holds (declares {u = u} semicolon {ls = ls} w s m) h =
+        separated_holds Declares (DeclaredHolds has) (λ x v ls p g. declares_holds p g) s (front has ls (at semicolon u ∷ []) (behind has h))
+    says_holds (if_alone {ls = ls} {ms = ms} w b f) h =
+        (brackets_holds b (front has ls ms (behind has h)), says_holds f (back has ls ms (behind has h)), tt)
+    says_holds (if_else {v = v} other {ls = ls} {ms = ms} {rs = rs} w b f e s) h =
+        let late = back has ls (ms ++ (at other (v + 1 + 1) ∷ rs)) (behind has h) in (
+          brackets_holds b (front has ls (ms ++ (at other (v + 1 + 1) ∷ rs)) (behind has h)),
+          says_holds f (front has ms (at other (v + 1 + 1) ∷ rs) late),
+          says_holds s (behind has (back has ms (at other (v + 1 + 1) ∷ rs) late)),
+        )
+    says_holds (loops {ls = ls} {ms = ms} {rs = rs} w b n s) h =
+        (brackets_holds b (front has ls (ms ++ rs) (behind has h)), says_holds s (back has ms rs (back has ls (ms ++ rs) (behind has h))), h.each.0.place)
+    says_holds (counts {ls = ls} {ms = ms} {rs = rs} w p n s) h =
+        let parts = head_holds p (front has ls (ms ++ rs) (behind has h)) in
+        (parts.0, parts.1, parts.2, says_holds s (back has ms rs (back has ls (ms ++ rs) (behind has h))), h.each.0.place)
+    says_holds (pauses w m) h = tt
+    says_holds (forks {u = u} semicolon {ls = ls} w f m) h = forks_holds f (front has ls (at semicolon u ∷ []) (behind has h))
+    says_holds (aborts {v = v} {u = u} t when semicolon {ws = ws} {ls = ls} {is = is} {ms = ms} a w b n i e m) h =
+        let last = ms ++ (at semicolon u ∷ []) in
+        let late = behind has (back has ws (at t (v + 1) ∷ (ls ++ (at when (v + 1) ∷ (is ++ last)))) h) in
+        let later = behind has (back has ls (at when (v + 1) ∷ (is ++ last)) late) in (
+          brackets_holds e (front has ms (at semicolon u ∷ []) (back has is last later)),
+          block_holds b (front has ls (at when (v + 1) ∷ (is ++ last)) late),
+        )
+    says_holds (gives_back {u = u} semicolon {ls = ls} w e m) h = whole_holds e (front has ls (at semicolon u ∷ []) (behind has h))
 
-  passes_words : {args : List Term} {v : ℕ} {ls : List Spelt} → SpellsArguments args v ls → SpeltFits ls → TermsWords (listed args)
-  passes_words (passes_none m n) h = tt
-  passes_words (passes {v = v} right {ls = ls} m a n) h = arguments_words a (front ls (at right v ∷ []) (behind h))
+    block_holds : {place : Place} {body : List Statement} {v u : ℕ} {ls : List Spelt} → Block place body v u ls → SpeltHolds has ls → StatementsHolds has (in_order body)
+    block_holds (block {u = u} right {ls = ls} m l n) h = lists_holds l (front has ls (at right u ∷ []) (behind has h))
 
-  arguments_words : {args : List Term} {v : ℕ} {ls : List Spelt} → SpellsExpressions args v ls → SpeltFits ls → TermsWords (listed args)
-  arguments_words (one e) h = (whole_words e h, tt)
-  arguments_words (more {v = v} comma {ls = ls} {rs = rs} e m a) h =
-      (whole_words e (front ls (at comma v ∷ rs) h), arguments_words a (behind (back ls (at comma v ∷ rs) h)))
+    lists_holds : {body : List Statement} {v : ℕ} {ls : List Spelt} → SpellsStatements body v ls → SpeltHolds has ls → StatementsHolds has (in_order body)
+    lists_holds no_more h = tt
+    lists_holds (and_more {ls = ls} {rs = rs} s rest) h = (says_holds s (front has ls rs h), lists_holds rest (back has ls rs h))
 
--- a comma stands between each two
-arguments_few : {args : List Term} {v : ℕ} {ls : List Spelt} → SpellsExpressions args v ls → count_terms (listed args) ≤ length ls + 1
-arguments_few (one e) = omega arith
-arguments_few (more {v = v} comma {ls = ls} {rs = rs} e m a) = let n = arguments_few a in omega (arith, length-append ls (at comma v ∷ rs), n)
+    forks_holds : {bs : List Launch} {v : ℕ} {ls : List Spelt} → SpellsBranches bs v ls → SpeltHolds has ls → LaunchesHolds has (launched bs)
+    forks_holds (forked {v = v} right {ls = ls} m l n) h = launches_holds l (front has ls (at right v ∷ []) (behind has h))
 
--- ---- parts with commas between them
+    starting_holds : {x : Launch} {v : ℕ} {ls : List Spelt} → Starting x v ls → SpeltHolds has ls → (rest : Branches) → LaunchesHolds has rest → LaunchesHolds has (launched_before x rest)
+    starting_holds (bare_call id n) h rest g = (tt, g)
+    starting_holds (call id n p) h rest g = (passes_holds p (behind has h), g)
+    starting_holds (blocked b) h rest g = (block_holds b h, g)
 
-module _ {A : Type 0} (Part : A → ℕ → List Spelt → Type 0) (P : A → Type 0) (each : (x : A) (v : ℕ) (ls : List Spelt) → Part x v ls → SpeltFits ls → P x) where
-  separated_words : {xs : List A} {v : ℕ} {ls : List Spelt} → Separated Part xs v ls → SpeltFits ls → AllByRecursion P xs
-  separated_words (last_part {v = v} {x = x} {ls = ls} p) h = (each x v ls p h, tt)
-  separated_words (next_part {v = v} {x = x} comma {ls = ls} {rs = rs} p m rest) h =
-      (each x v ls p (front ls (at comma v ∷ rs) h), separated_words rest (behind (back ls (at comma v ∷ rs) h)))
+    launches_holds : {bs : List Launch} {v : ℕ} {ls : List Spelt} → SpellsLaunches bs v ls → SpeltHolds has ls → LaunchesHolds has (launched bs)
+    launches_holds (last_branch s) h = starting_holds s h no_branches tt
+    launches_holds (next_branch {v = v} {xs = xs} comma {ls = ls} {rs = rs} s m rest) h =
+        starting_holds s (front has ls (at comma v ∷ rs) h) (launched xs) (launches_holds rest (behind has (back has ls (at comma v ∷ rs) h)))
 
--- ---- simple statements and declarations
+  -- ---- globals
 
-targets_words : {t : PlainTarget} {v : ℕ} {ls : List Spelt} → Targets t v ls → SpeltFits ls → OptionWords t.index
-targets_words (scalar id n) h = tt
-targets_words (indexed id n i) h = indexes_words i (behind h)
+  signed_holds : {n : Number} {v : ℕ} {ls : List Spelt} → Signed n v ls → SpeltHolds has ls → has.OfNumber n.value
+  signed_holds (positive value is) h = h.each.0.number value is
+  signed_holds (negative value m is) h = ok.minus value (h.each.1.0.number value is)
 
-simple_words : {x : Statement} {v : ℕ} {ls : List Spelt} → Simple x v ls → SpeltFits ls → StatementWords x
-simple_words (sets {v = v} t {ts = ts} {ls = ls} a m e) h =
-    (targets_words a (front ts (at t v ∷ ls) h), whole_words e (behind (back ts (at t v ∷ ls) h)))
-simple_words (updates {v = v} t {ts = ts} {ls = ls} op a m e) h =
-    (targets_words a (front ts (at t v ∷ ls) h), whole_words e (behind (back ts (at t v ∷ ls) h)))
-simple_words (steps_after {v = v} t {ts = ts} op a m) h = (targets_words a (front ts (at t v ∷ []) h), one_fits)
-simple_words (steps_ahead op m a) h = (targets_words a (behind h), one_fits)
-simple_words (invokes id n p) h = passes_words p (behind h)
+  abbrev GlobalHolds : PlainGlobal → Type 0
+  GlobalHolds g = NumbersHold has g.values
 
-declares_words : {d : Declared} {v : ℕ} {ls : List Spelt} → Declares d v ls → SpeltFits ls → DeclaredWords d
-declares_words (bare id n) h = record { values = tt; few = omega arith }
-declares_words (valued id n m e) h = record { values = (whole_words e (behind (behind h)), tt); few = omega arith }
-declares_words (array id n l) h = record { values = tt; few = omega arith }
-declares_words (valued_array {v = v} equal left right {ls = ls} {rs = rs} id n l m c a d) h =
-    let inside = front rs (at right v ∷ []) (behind (behind (back ls (at equal v ∷ at left (v + 1) ∷ (rs ++ (at right v ∷ []))) (behind h)))) in
-    let count = arguments_few a in
-    let few = inside.few in
-    record { values = arguments_words a inside; few = omega arith }
+  named_holds : {kind : GlobalKind} {g : PlainGlobal} {v : ℕ} {ls : List Spelt} → Named kind g v ls → SpeltHolds has ls → GlobalHolds g
+  named_holds (named id n) h = tt
 
-start_words : {s : Perhaps} {v : ℕ} {ls : List Spelt} → ForStarts s v ls → SpeltFits ls → PerhapsWords s
-start_words no_start h = tt
-start_words (simple_start x) h = simple_words x h
-start_words (declared_start id w n m e) h = (record { values = (whole_words e (behind (behind (behind h))), tt); few = omega arith }, tt)
+  scalar_holds : {kind : GlobalKind} {combine : Option Combine} {g : PlainGlobal} {v : ℕ} {ls : List Spelt} → Scalar kind combine g v ls → SpeltHolds has ls → GlobalHolds g
+  scalar_holds (unset id n) h = tt
+  scalar_holds (set id n m s) h = (signed_holds s (behind has (behind has h)), tt)
 
-test_words : {t : Option Term} {v : ℕ} {ls : List Spelt} → Tests t v ls → SpeltFits ls → OptionWords t
-test_words no_test h = tt
-test_words (some_test e) h = whole_words e h
+  values_holds : {values : List Number} {v : ℕ} {ls : List Spelt} → Separated Signed values v ls → SpeltHolds has ls → NumbersHold has values
+  values_holds s h = separated_holds Signed (λ (n : Number). has.OfNumber n.value) (λ x v ls p g. signed_holds p g) s h
 
-step_words : {s : Perhaps} {v : ℕ} {ls : List Spelt} → ForSteps s v ls → SpeltFits ls → PerhapsWords s
-step_words no_step h = tt
-step_words (some_step x) h = simple_words x h
+  table_holds : {g : PlainGlobal} {v : ℕ} {ls : List Spelt} → Table g v ls → SpeltHolds has ls → GlobalHolds g
+  table_holds (constant id n m s) h = (signed_holds s (behind has (behind has h)), tt)
+  table_holds (table {v = v} equal left right {ls = ls} {rs = rs} id n l m c s d) h =
+      values_holds s (front has rs (at right v ∷ []) (behind has (behind has (back has ls (at equal v ∷ at left (v + 1) ∷ (rs ++ (at right v ∷ []))) (behind has h)))))
 
-abbrev HeadWords : Head → Type 0
-HeadWords head = PerhapsWords head.start × OptionWords head.test × PerhapsWords head.step
+  shared_holds : {kind : GlobalKind} {combine : Option Combine} {g : PlainGlobal} {v : ℕ} {ls : List Spelt} → SharedVariable kind combine g v ls → SpeltHolds has ls → GlobalHolds g
+  shared_holds (spelled.one s) h = scalar_holds s h
+  shared_holds (spelled.array id n l) h = tt
+  shared_holds (spelled.valued_array {v = v} equal left right {ls = ls} {rs = rs} id n l m c s d) h =
+      values_holds s (front has rs (at right v ∷ []) (behind has (behind has (back has ls (at equal v ∷ at left (v + 1) ∷ (rs ++ (at right v ∷ []))) (behind has h)))))
 
-parts_words : {head : Head} {v : ℕ} {ls : List Spelt} → HeadParts head v ls → SpeltFits ls → HeadWords head
-parts_words (head_parts {v = v} first second {ls = ls} {ms = ms} {rs = rs} s m t n e) h =
-    let late = behind (back ls (at first v ∷ (ms ++ (at second v ∷ rs))) h) in (
-      start_words s (front ls (at first v ∷ (ms ++ (at second v ∷ rs))) h),
-      test_words t (front ms (at second v ∷ rs) late),
-      step_words e (behind (back ms (at second v ∷ rs) late)),
-    )
+  -- ---- programs
 
-head_words : {head : Head} {v : ℕ} {ls : List Spelt} → Heads head v ls → SpeltFits ls → HeadWords head
-head_words (heads {v = v} right {ls = ls} m p n) h = parts_words p (front ls (at right v ∷ []) (behind h))
+  globals_holds : (gs : List PlainGlobal) → AllByRecursion GlobalHolds gs → TextHolds has (map IsGlobal gs)
+  globals_holds [] h = tt
+  globals_holds (g ∷ gs) h = (h.0, globals_holds gs h.1)
 
--- ---- statements
+  items_holds : {xs : List PlainItem} {v : ℕ} {ls : List Spelt} → Introduces xs v ls → SpeltHolds has ls → TextHolds has xs
+  items_holds (constants {v = v} semicolon {globals = gs} {ls = ls} w i s m) h =
+      globals_holds gs (separated_holds Table GlobalHolds (λ x v ls p g. table_holds p g) s (front has ls (at semicolon v ∷ []) (behind has (behind has h))))
+  items_holds (inputs {v = v} semicolon {globals = gs} {ls = ls} w i s m) h =
+      globals_holds gs (separated_holds _ GlobalHolds (λ x v ls p g. named_holds p g) s (front has ls (at semicolon v ∷ []) (behind has (behind has h))))
+  items_holds (outputs {v = v} semicolon {globals = gs} {ls = ls} w i s m) h =
+      globals_holds gs (separated_holds _ GlobalHolds (λ x v ls p g. scalar_holds p g) s (front has ls (at semicolon v ∷ []) (behind has (behind has h))))
+  items_holds (globals {v = v} semicolon {globals = gs} {ls = ls} i s m) h =
+      globals_holds gs (separated_holds _ GlobalHolds (λ x v ls p g. scalar_holds p g) s (front has ls (at semicolon v ∷ []) (behind has h)))
+  items_holds (shared_globals {v = v} int semicolon {ls = ls} {ms = ms} {rs = rs} s i n c m) h =
+      let late = behind has (back has ls (at int v ∷ (ms ++ (rs ++ (at semicolon v ∷ [])))) h) in (shared_holds n (front has ms (rs ++ (at semicolon v ∷ [])) late), tt)
+  items_holds (function {ls = ls} {ms = ms} gives id w n ps b) h = (block_holds b (back has ls ms (behind has (behind has h))), tt)
 
-mutual
-  says_words : {x : Statement} {o : Bool} {v u : ℕ} {ls : List Spelt} → SpellsStatement x o v u ls → SpeltFits ls → StatementWords x
-  says_words (says.nothing m) h = tt
-  says_words (acts {u = u} semicolon {ls = ls} s m) h = simple_words s (front ls (at semicolon u ∷ []) h)
-  says_words (group b) h = block_words b h
-  says_words (declares {u = u} semicolon {ls = ls} w s m) h =
-      separated_words Declares DeclaredWords (λ x v ls p g. declares_words p g) s (front ls (at semicolon u ∷ []) (behind h))
-  says_words (if_alone {ls = ls} {ms = ms} w b f) h =
-      (brackets_words b (front ls ms (behind h)), says_words f (back ls ms (behind h)), tt)
-  says_words (if_else {v = v} other {ls = ls} {ms = ms} {rs = rs} w b f e s) h =
-      let late = back ls (ms ++ (at other (v + 1 + 1) ∷ rs)) (behind h) in (
-        brackets_words b (front ls (ms ++ (at other (v + 1 + 1) ∷ rs)) (behind h)),
-        says_words f (front ms (at other (v + 1 + 1) ∷ rs) late),
-        says_words s (behind (back ms (at other (v + 1 + 1) ∷ rs) late)),
-      )
-  says_words (loops {ls = ls} {ms = ms} {rs = rs} w b n s) h =
-      (brackets_words b (front ls (ms ++ rs) (behind h)), says_words s (back ms rs (back ls (ms ++ rs) (behind h))))
-  says_words (counts {ls = ls} {ms = ms} {rs = rs} w p n s) h =
-      let parts = head_words p (front ls (ms ++ rs) (behind h)) in
-      (parts.0, parts.1, parts.2, says_words s (back ms rs (back ls (ms ++ rs) (behind h))))
-  says_words (pauses w m) h = tt
-  says_words (forks {u = u} semicolon {ls = ls} w f m) h = forks_words f (front ls (at semicolon u ∷ []) (behind h))
-  says_words (aborts {v = v} {u = u} t when semicolon {ws = ws} {ls = ls} {is = is} {ms = ms} a w b n i e m) h =
-      let last = ms ++ (at semicolon u ∷ []) in
-      let late = behind (back ws (at t (v + 1) ∷ (ls ++ (at when (v + 1) ∷ (is ++ last)))) h) in
-      let later = behind (back ls (at when (v + 1) ∷ (is ++ last)) late) in (
-        brackets_words e (front ms (at semicolon u ∷ []) (back is last later)),
-        block_words b (front ls (at when (v + 1) ∷ (is ++ last)) late),
-      )
-  says_words (gives_back {u = u} semicolon {ls = ls} w e m) h = whole_words e (front ls (at semicolon u ∷ []) (behind h))
+  program_holds : {xs : Text} {v : ℕ} {ls : List Spelt} → Programs xs v ls → SpeltHolds has ls → TextHolds has xs
+  program_holds no_items h = tt
+  program_holds (more_items {xs = xs} {rest = rest} {ls = ls} {rs = rs} i r) h =
+      all_append (ItemHolds has) xs rest (items_holds i (front has ls rs h)) (program_holds r (back has ls rs h))
 
-  block_words : {place : Place} {body : List Statement} {v u : ℕ} {ls : List Spelt} → Block place body v u ls → SpeltFits ls → StatementsWords (in_order body)
-  block_words (block {u = u} right {ls = ls} m l n) h = lists_words l (front ls (at right u ∷ []) (behind h))
-
-  lists_words : {body : List Statement} {v : ℕ} {ls : List Spelt} → SpellsStatements body v ls → SpeltFits ls → StatementsWords (in_order body)
-  lists_words no_more h = tt
-  lists_words (and_more {ls = ls} {rs = rs} s rest) h = (says_words s (front ls rs h), lists_words rest (back ls rs h))
-
-  forks_words : {bs : List Launch} {v : ℕ} {ls : List Spelt} → SpellsBranches bs v ls → SpeltFits ls → LaunchesWords (launched bs)
-  forks_words (forked {v = v} right {ls = ls} m l n) h = launches_words l (front ls (at right v ∷ []) (behind h))
-
-  starting_words : {x : Launch} {v : ℕ} {ls : List Spelt} → Starting x v ls → SpeltFits ls → (rest : Branches) → LaunchesWords rest → LaunchesWords (launched_before x rest)
-  starting_words (bare_call id n) h rest g = (tt, g)
-  starting_words (call id n p) h rest g = (passes_words p (behind h), g)
-  starting_words (blocked b) h rest g = (block_words b h, g)
-
-  launches_words : {bs : List Launch} {v : ℕ} {ls : List Spelt} → SpellsLaunches bs v ls → SpeltFits ls → LaunchesWords (launched bs)
-  launches_words (last_branch s) h = starting_words s h no_branches tt
-  launches_words (next_branch {v = v} {xs = xs} comma {ls = ls} {rs = rs} s m rest) h =
-      starting_words s (front ls (at comma v ∷ rs) h) (launched xs) (launches_words rest (behind (back ls (at comma v ∷ rs) h)))
-
--- ---- globals
-
-signed_words : {n : Number} {v : ℕ} {ls : List Spelt} → Signed n v ls → SpeltFits ls → FitsSigned w32 n.value
-signed_words (positive value is) h = h.each.0 value is
-signed_words (negative value m is) h = unary_fits un.Minus value (h.each.1.0 value is)
-
-abbrev GlobalWords : PlainGlobal → Type 0
-GlobalWords g = NumbersFit g.values
-
-named_words : {kind : GlobalKind} {g : PlainGlobal} {v : ℕ} {ls : List Spelt} → Named kind g v ls → SpeltFits ls → GlobalWords g
-named_words (named id n) h = tt
-
-scalar_words : {kind : GlobalKind} {combine : Option Combine} {g : PlainGlobal} {v : ℕ} {ls : List Spelt} → Scalar kind combine g v ls → SpeltFits ls → GlobalWords g
-scalar_words (unset id n) h = tt
-scalar_words (set id n m s) h = (signed_words s (behind (behind h)), tt)
-
-values_words : {values : List Number} {v : ℕ} {ls : List Spelt} → Separated Signed values v ls → SpeltFits ls → NumbersFit values
-values_words s h = separated_words Signed (λ n. FitsSigned w32 n.value) (λ x v ls p g. signed_words p g) s h
-
-table_words : {g : PlainGlobal} {v : ℕ} {ls : List Spelt} → Table g v ls → SpeltFits ls → GlobalWords g
-table_words (constant id n m s) h = (signed_words s (behind (behind h)), tt)
-table_words (table {v = v} equal left right {ls = ls} {rs = rs} id n l m c s d) h =
-    values_words s (front rs (at right v ∷ []) (behind (behind (back ls (at equal v ∷ at left (v + 1) ∷ (rs ++ (at right v ∷ []))) (behind h)))))
-
-shared_words : {kind : GlobalKind} {combine : Option Combine} {g : PlainGlobal} {v : ℕ} {ls : List Spelt} → SharedVariable kind combine g v ls → SpeltFits ls → GlobalWords g
-shared_words (spelled.one s) h = scalar_words s h
-shared_words (spelled.array id n l) h = tt
-shared_words (spelled.valued_array {v = v} equal left right {ls = ls} {rs = rs} id n l m c s d) h =
-    values_words s (front rs (at right v ∷ []) (behind (behind (back ls (at equal v ∷ at left (v + 1) ∷ (rs ++ (at right v ∷ []))) (behind h)))))
-
--- ---- programs
-
-globals_words : (gs : List PlainGlobal) → AllByRecursion GlobalWords gs → TextWords (map IsGlobal gs)
-globals_words [] h = tt
-globals_words (g ∷ gs) h = (h.0, globals_words gs h.1)
-
-items_words : {xs : List PlainItem} {v : ℕ} {ls : List Spelt} → Introduces xs v ls → SpeltFits ls → TextWords xs
-items_words (constants {v = v} semicolon {globals = gs} {ls = ls} w i s m) h =
-    globals_words gs (separated_words Table GlobalWords (λ x v ls p g. table_words p g) s (front ls (at semicolon v ∷ []) (behind (behind h))))
-items_words (inputs {v = v} semicolon {globals = gs} {ls = ls} w i s m) h =
-    globals_words gs (separated_words _ GlobalWords (λ x v ls p g. named_words p g) s (front ls (at semicolon v ∷ []) (behind (behind h))))
-items_words (outputs {v = v} semicolon {globals = gs} {ls = ls} w i s m) h =
-    globals_words gs (separated_words _ GlobalWords (λ x v ls p g. scalar_words p g) s (front ls (at semicolon v ∷ []) (behind (behind h))))
-items_words (globals {v = v} semicolon {globals = gs} {ls = ls} i s m) h =
-    globals_words gs (separated_words _ GlobalWords (λ x v ls p g. scalar_words p g) s (front ls (at semicolon v ∷ []) (behind h)))
-items_words (shared_globals {v = v} int semicolon {ls = ls} {ms = ms} {rs = rs} s i n c m) h =
-    let late = behind (back ls (at int v ∷ (ms ++ (rs ++ (at semicolon v ∷ [])))) h) in (shared_words n (front ms (rs ++ (at semicolon v ∷ [])) late), tt)
-items_words (function {ls = ls} {ms = ms} gives id w n ps b) h = (block_words b (back ls ms (behind (behind h))), tt)
-
-program_words : {xs : Text} {v : ℕ} {ls : List Spelt} → Programs xs v ls → SpeltFits ls → TextWords xs
-program_words no_items h = tt
-program_words (more_items {xs = xs} {rest = rest} {ls = ls} {rs = rs} i r) h =
-    all_append ItemWords xs rest (items_words i (front ls rs h)) (program_words r (back ls rs h))
-
-pub spelled_words : (limit : ℕ) (text : Text) (ts : List Token) → (s : IsSpelled limit text ts) → SpeltFits s.spelt → TextWords text
-spelled_words limit text ts s h = program_words s.spells h
+  pub spelled_holds : (limit : ℕ) (text : Text) (ts : List Token) → (s : IsSpelled limit text ts) → SpeltHolds has s.spelt → TextHolds has text
+  spelled_holds limit text ts s h = program_holds s.spells h

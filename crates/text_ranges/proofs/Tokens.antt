@@ -1,4 +1,4 @@
--- The numbers among the tokens of a text fit 32 bits.
+-- The numbers among the tokens of a text fit 32 bits. Tokens that have a property, with their levels.
 use Rattle.std.proofs.Common.{◌≡◌, ℕ, suc, ◌≤◌, ◌∙◌, sym, ap, refl, subst, Some, List, [], ◌∷◌, ◌++◌, length, take, drop, ℤ, FitsSigned, w32, length-append, arith}
 use Rattle.std.specs.Int.{cast_signed}
 use Rattle.std.specs.List.{AllByRecursion}
@@ -10,6 +10,7 @@ use Rattle.forec_tree.specs.LexedText.{token_kind_of, token_at, Cuts, begins, sk
 use Rattle.forec_tree.specs.Spelling.{Spelt, tokens}
 use Rattle.value_ranges.proofs.Numbers.{signed_fits}
 use Rattle.value_ranges.proofs.Lists.{all_append}
+use Rattle.value_ranges.specs.Properties.{Property}
 
 -- if the token is a number, it fits
 abbrev pub TokenFits : Token → Type 0
@@ -28,7 +29,7 @@ piece_fits names (number int) bytes after k f e value i =
 piece_fits names (word w) bytes after k f e value i = cc
 piece_fits names (mark m) bytes after k f e value i = cc
 
-cuts_fit : {text : List ℕ} {ts : List Token} {names : List (List ℕ)} {at : ℕ} → Cuts text ts names at → AllByRecursion TokenFits ts
+pub cuts_fit : {text : List ℕ} {ts : List Token} {names : List (List ℕ)} {at : ℕ} → Cuts text ts names at → AllByRecursion TokenFits ts
 cuts_fit begins = tt
 cuts_fit (skips n c x) = cuts_fit c
 cuts_fit {text} (takes {tokens = ts} {names = names} {at = at} p n k c x e) =
@@ -37,39 +38,49 @@ cuts_fit {text} (takes {tokens = ts} {names = names} {at = at} p n k c x e) =
 
 -- ---- tokens with their levels
 
--- at most 200000 tokens, of which each that is a number fits
-pub record SpeltFits (ls : List Spelt) : Type 0 where
-  pub each : AllByRecursion (λ (s : Spelt). TokenFits s.token) ls
-  pub few : length ls ≤ 200000
+module _ (has : Property) where
+  -- if the token is a number, the number has the property; and so has the place
+  pub record TokenHolds (t : Token) : Type 0 where
+    pub number : (value : ℤ) → t.kind ≡ kind.Number value → has.OfNumber value
+    pub place : has.OfPlace t.place
 
-each_fits : (ls : List Spelt) → AllByRecursion TokenFits (tokens ls) → AllByRecursion (λ (s : Spelt). TokenFits s.token) ls
-each_fits [] h = tt
-each_fits (s ∷ ls) h = (h.0, each_fits ls h.1)
+  abbrev AllHold : List Spelt → Type 0
+  AllHold = AllByRecursion (λ (s : Spelt). TokenHolds s.token)
 
-as_many : (ls : List Spelt) → length (tokens ls) ≡ length ls
-as_many [] = refl
-as_many (s ∷ ls) = ap suc (as_many ls)
+  -- at most 200000 tokens that have it
+  pub record SpeltHolds (ls : List Spelt) : Type 0 where
+    pub each : AllHold ls
+    pub few : length ls ≤ 200000
 
-pub lexed_fit : (bytes : List ℕ) (ts : List Token) (names : List (List ℕ)) (ls : List Spelt) → IsLexed bytes ts names → tokens ls ≡ ts → SpeltFits ls
-lexed_fit bytes ts names ls h e =
-    let few = h.few in
-    let n : length ls ≡ length ts = sym (as_many ls) ∙ ap (λ (us : List Token). length us) e in
-    record { each = each_fits ls (subst (AllByRecursion TokenFits) (sym e) (cuts_fit h.lexes.cuts)); few = omega arith }
+  each_holds : (ls : List Spelt) → AllByRecursion TokenHolds (tokens ls) → AllHold ls
+  each_holds [] h = tt
+  each_holds (s ∷ ls) h = (h.0, each_holds ls h.1)
 
--- those after the first
-pub behind : {s : Spelt} {ls : List Spelt} → SpeltFits (s ∷ ls) → SpeltFits ls
-behind h = let few = h.few in record { each = h.each.1; few = omega arith }
+  as_many : (ls : List Spelt) → length (tokens ls) ≡ length ls
+  as_many [] = refl
+  as_many (s ∷ ls) = ap suc (as_many ls)
 
-left_fits : (ls rs : List Spelt) → AllByRecursion (λ (s : Spelt). TokenFits s.token) (ls ++ rs) → AllByRecursion (λ (s : Spelt). TokenFits s.token) ls
-left_fits [] rs h = tt
-left_fits (s ∷ ls) rs h = (h.0, left_fits ls rs h.1)
+  pub lexed_holds : (bytes : List ℕ) (ts : List Token) (names : List (List ℕ)) (ls : List Spelt) → IsLexed bytes ts names → tokens ls ≡ ts →
+      AllByRecursion TokenHolds ts → SpeltHolds ls
+  lexed_holds bytes ts names ls h e all =
+      let few = h.few in
+      let n : length ls ≡ length ts = sym (as_many ls) ∙ ap (λ (us : List Token). length us) e in
+      record { each = each_holds ls (subst (AllByRecursion TokenHolds) (sym e) all); few = omega arith }
 
-right_fits : (ls rs : List Spelt) → AllByRecursion (λ (s : Spelt). TokenFits s.token) (ls ++ rs) → AllByRecursion (λ (s : Spelt). TokenFits s.token) rs
-right_fits [] rs h = h
-right_fits (s ∷ ls) rs h = right_fits ls rs h.1
+  -- those after the first
+  pub behind : {s : Spelt} {ls : List Spelt} → SpeltHolds (s ∷ ls) → SpeltHolds ls
+  behind h = let few = h.few in record { each = h.each.1; few = omega arith }
 
-pub front : (ls rs : List Spelt) → SpeltFits (ls ++ rs) → SpeltFits ls
-front ls rs h = let few = h.few in record { each = left_fits ls rs h.each; few = omega (arith, length-append ls rs, few) }
+  left_hold : (ls rs : List Spelt) → AllHold (ls ++ rs) → AllHold ls
+  left_hold [] rs h = tt
+  left_hold (s ∷ ls) rs h = (h.0, left_hold ls rs h.1)
 
-pub back : (ls rs : List Spelt) → SpeltFits (ls ++ rs) → SpeltFits rs
-back ls rs h = let few = h.few in record { each = right_fits ls rs h.each; few = omega (arith, length-append ls rs, few) }
+  right_hold : (ls rs : List Spelt) → AllHold (ls ++ rs) → AllHold rs
+  right_hold [] rs h = h
+  right_hold (s ∷ ls) rs h = right_hold ls rs h.1
+
+  pub front : (ls rs : List Spelt) → SpeltHolds (ls ++ rs) → SpeltHolds ls
+  front ls rs h = let few = h.few in record { each = left_hold ls rs h.each; few = omega (arith, length-append ls rs, few) }
+
+  pub back : (ls rs : List Spelt) → SpeltHolds (ls ++ rs) → SpeltHolds rs
+  back ls rs h = let few = h.few in record { each = right_hold ls rs h.each; few = omega (arith, length-append ls rs, few) }

@@ -4,20 +4,24 @@ use Rattle.std.specs.List.{AllByRecursion}
 use Rattle.forec_kernel.specs.declared.shape.Variable.{Variable}
 use Rattle.forec_tree.specs.declared.tree.Number.{Number}
 use Rattle.forec_tree.specs.Scopes.{is_constant, stated_length}
-use Rattle.forec_tree.specs.Terms.{PlainGlobal, PlainFunction, IsGlobal, IsFunction, Text}
+use Rattle.forec_tree.specs.Terms.{PlainGlobal, IsGlobal, IsFunction, Text}
 use Rattle.forec_tree.specs.Variables.{PlainVariable, elements, elements_from, variables_of, variables}
-use Rattle.text_kernel.specs.Bindings.{params_at, number_of, first_value, nth_value}
-use Rattle.text_kernel.specs.Lowering.{Made, sequence}
-use Rattle.text_kernel.specs.Kernels.{padded, initial_value, variable_shape, table_of, tables_of, lowered_function_body, int_functions, main_id, root, kernel_of}
-use Rattle.value_ranges.specs.Words.{AreWords, StmtWords, KernelWords}
+use Rattle.text_kernel.specs.Bindings.{number_of, first_value, nth_value}
+use Rattle.text_kernel.specs.Kernels.{padded, initial_value, variable_shape, table_of, tables_of, kernel_of}
+use Rattle.value_ranges.specs.Words.{AreWords, fitting_words, KernelWords}
 use Rattle.value_ranges.proofs.Numbers.{zero_fits}
 use Rattle.value_ranges.proofs.Lists.{all_append}
 use Rattle.value_ranges.proofs.Ticks.{values_fit}
 use Rattle.text_ranges.specs.Laws.{SpelledProgramsHaveWords, SpelledRunsFit}
-use Rattle.text_ranges.proofs.Tokens.{lexed_fit}
-use Rattle.text_ranges.proofs.Trees.{StatementsWords, NumbersFit, TextWords}
-use Rattle.text_ranges.proofs.Spelled.{spelled_words}
-use Rattle.text_ranges.proofs.Lowered.{first_fits, sequence_words, MadeWords, body_words, inlined_words}
+use Rattle.text_ranges.proofs.Tokens.{TokenFits, cuts_fit, TokenHolds, lexed_holds}
+use Rattle.text_ranges.proofs.Trees.{TextHolds}
+use Rattle.text_ranges.proofs.Spelled.{spelled_holds}
+use Rattle.text_ranges.proofs.Lowered.{first_holds}
+use Rattle.text_ranges.proofs.Bodies.{all_into, bodies_hold}
+use Rattle.text_ranges.proofs.Words.{small_words}
+
+abbrev NumbersFit : List Number → Type 0
+NumbersFit = AllByRecursion (λ (n : Number). FitsSigned w32 n.value)
 
 -- ---- variables
 
@@ -30,7 +34,7 @@ initial_fits : (v : PlainVariable) → NumbersFit v.global.values → FitsSigned
 initial_fits v h = pick v.index
   where
     pick : (i : Option ℕ) → FitsSigned w32 (elim i [ None ↦ first_value v.global.values | Some j ↦ nth_value j v.global.values ])
-    pick None = first_fits v.global.values h
+    pick None = first_holds fitting_words small_words v.global.values h
     pick (Some j) = nth_fits j v.global.values h
 
 abbrev VariablesWords : List PlainVariable → Type 0
@@ -47,7 +51,7 @@ global_words g h = pick (stated_length g)
     pick None = (h, tt)
     pick (Some n) = elements_words g h 0 (elements n)
 
-variables_words : (xs : Text) → TextWords xs → VariablesWords (variables xs)
+variables_words : (xs : Text) → TextHolds fitting_words xs → VariablesWords (variables xs)
 variables_words [] h = tt
 variables_words (IsFunction f ∷ rest) h = variables_words rest h.1
 variables_words (IsGlobal g ∷ rest) h = pick (is_constant g.kind) (variables_words rest h.1)
@@ -76,49 +80,28 @@ module _ (text : Text) (names : List (List ℕ)) where
       pick true (Some n) = (padded_fits (number_of n) g.values h, tt)
       pick false size = tt
 
-  tables_fit : (xs : Text) → TextWords xs → AllByRecursion AreWords (tables_of text names xs)
+  tables_fit : (xs : Text) → TextHolds fitting_words xs → AllByRecursion AreWords (tables_of text names xs)
   tables_fit [] h = tt
   tables_fit (IsFunction f ∷ rest) h = tables_fit rest h.1
   tables_fit (IsGlobal g ∷ rest) h = all_append AreWords (table_of text names g) (tables_of text names rest) (table_fits g h.0) (tables_fit rest h.1)
 
-  -- ---- bodies
-
-  ints_words : (xs : Text) → TextWords xs → AllByRecursion (λ (f : PlainFunction). StatementsWords f.body) (int_functions text names xs)
-  ints_words [] h = tt
-  ints_words (IsGlobal g ∷ rest) h = ints_words rest h.1
-  ints_words (IsFunction f ∷ rest) h = pick f.gives (ints_words rest h.1)
-    where
-      pick : (b : Bool) → AllByRecursion (λ (x : PlainFunction). StatementsWords x.body) (int_functions text names rest) →
-          AllByRecursion (λ (x : PlainFunction). StatementsWords x.body) (cond b (f ∷ int_functions text names rest) (int_functions text names rest))
-      pick true k = (h.0, k)
-      pick false k = k
-
-  made_fit : (a : List Made) → MadeWords a → AllByRecursion StmtWords (map (λ m. m.body) a)
-  made_fit [] h = tt
-  made_fit (m ∷ a) h = (h.0, made_fit a h.1)
-
-  module _ (words : TextWords text) where
-    functions_fit : (fs : List PlainFunction) → AllByRecursion (λ (f : PlainFunction). StatementsWords f.body) fs →
-        AllByRecursion StmtWords (map (λ f. sequence (lowered_function_body text names f).list) fs)
-    functions_fit [] h = tt
-    functions_fit (f ∷ fs) h =
-        let l = body_words text words 0 (params_at 0 f.params) (record { slot = length f.params; thread = 1; par = 0 }) f.body h.0 in
-        (sequence_words (lowered_function_body text names f).list l.list, functions_fit fs h.1)
-
-    has_words : KernelWords (kernel_of text names)
-    unfolding kernel_of
-    has_words =
-        let r = inlined_words text words (main_id text names) 0 0 (record { slot = 0; thread = 1; par = 0 }) in
-        record {
-          threads = (r.stmt, made_fit (root text names).made r.made);
-          functions = functions_fit (int_functions text names text) (ints_words text words);
-          tables = tables_fit text words;
-          starts = starts_fit (variables text) (variables_words text words);
-        }
+  has_words : TextHolds fitting_words text → KernelWords (kernel_of text names)
+  unfolding kernel_of
+  has_words all =
+      let k = bodies_hold fitting_words small_words text names all in
+      record {
+        threads = k.threads;
+        functions = k.functions;
+        tables = tables_fit text all;
+        starts = starts_fit (variables text) (variables_words text all);
+      }
 
 pub spelled_programs_have_words : SpelledProgramsHaveWords
 spelled_programs_have_words bytes tokens names limit program lexed spelled =
-    has_words program names (spelled_words limit program tokens spelled (lexed_fit bytes tokens names spelled.spelt lexed spelled.are))
+    has_words program names
+    (spelled_holds fitting_words small_words limit program tokens spelled
+    (lexed_holds fitting_words bytes tokens names spelled.spelt lexed spelled.are
+    (all_into TokenFits (TokenHolds fitting_words) (λ t fits. record { number = fits; place = tt }) tokens (cuts_fit lexed.lexes.cuts))))
 
 pub spelled_runs_fit : SpelledRunsFit
 spelled_runs_fit bytes tokens names limit program lexed spelled budget rows fit =

@@ -1,10 +1,13 @@
-//! Tests of the way from a text to a checked program: stores in memory, tokens, trees, loops, faults.
+//! Tests of the way from a text to what it means: stores in memory, tokens, trees, loops, faults, kernels, and ticks by
+//! rewriting.
 #![tactic(auto)]
 
 #[cfg(test)]
 mod arrays;
 #[cfg(test)]
 mod checked;
+#[cfg(test)]
+mod kernels;
 #[cfg(test)]
 mod lexed;
 #[cfg(test)]
@@ -13,3 +16,5 @@ mod loops;
 mod parsed;
 #[cfg(test)]
 mod stores;
+#[cfg(test)]
+mod ticks;

@@ -8,6 +8,8 @@ use Rattle.forec_base.specs.declared.operators.Binary.TheVariants as binary
 use Rattle.forec_base.specs.declared.operators.Binary as binary_type
 use Rattle.thread_code.specs.declared.instruction.Instruction.{Instruction}
 use Rattle.thread_code.specs.declared.instruction.Instruction.TheVariants.{Push, Quiet, Load, Store, LoadAt, StoreAt, Clear, Table, Get, Put, GetAt, PutAt, Unary, Binary, Truth, Zero, NonZero, Jump, Unit as Count, Fill, Turn, Flag, Keep, Flagged, Fork, Again, Pause, End, Call, Return}
+use Rattle.thread_code.specs.declared.printing.Operands.{Operands}
+use Rattle.thread_code.specs.declared.printing.Operands.TheVariants as operands
 use Rattle.thread_code.specs.Plain.{PlainBlock, PlainCode}
 
 abbrev pub unary_name : unary_type.Unary → List ℕ
@@ -47,6 +49,18 @@ two_operands word a b = one_operand word a ++ codes " " ++ decimal b
 -- an instruction that can trap ends with the trap's place
 abbrev pub trapping : List ℕ → Place → List ℕ
 trapping text place = text ++ codes " @" ++ decimal place.line ++ codes ":" ++ decimal place.column
+
+-- a word and what stands after it
+abbrev pub line_text : List ℕ → Operands → List ℕ
+line_text word operands.None = word
+line_text word (operands.Number n) = word ++ codes " " ++ signed_decimal n
+line_text word (operands.One a) = one_operand word a
+line_text word (operands.Two a b) = two_operands word a b
+line_text word (operands.OneAt a place) = trapping (one_operand word a) place
+line_text word (operands.TwoAt a b place) = trapping (two_operands word a b) place
+line_text word (operands.Unary op) = word ++ codes " " ++ unary_name op
+line_text word (operands.Binary op None) = word ++ codes " " ++ binary_name op
+line_text word (operands.Binary op (Some place)) = trapping (word ++ codes " " ++ binary_name op) place
 
 abbrev pub instruction_text : Instruction → List ℕ
 instruction_text (Push n) = codes "push " ++ signed_decimal n

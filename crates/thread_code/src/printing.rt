@@ -1,10 +1,10 @@
 //! The listing of a code.
 
-ghost use Rattle.std.specs.Prelude.{◌≡◌, ◌++◌, Some, map, string_bytes, IfOk, OnOk};
+ghost use Rattle.std.specs.Prelude.{◌≡◌, ◌++◌, [], Some, map, string_bytes, IfOk, OnOk};
 ghost use Rattle.std.specs.Fmt.{DisplaysOnOk};
-ghost use Rattle.thread_code.specs.declared.instruction.Instruction.TheVariants as instruction;
+ghost use Rattle.thread_code.specs.declared.printing.Operands.TheVariants as operands;
 ghost use Rattle.thread_code.specs.Plain.{plain_code, plain_block};
-ghost use Rattle.thread_code.specs.Listing.{unary_name, binary_name, one_operand, two_operands, trapping, instruction_text, steps_text, blocks_text, listing_of};
+ghost use Rattle.thread_code.specs.Listing.{unary_name, binary_name, one_operand, two_operands, trapping, line_text, instruction_text, steps_text, blocks_text, listing_of};
 
 use crate::code::Code;
 use crate::instruction::{Block, Instruction};
@@ -63,6 +63,12 @@ fn write_two<W: fmt::Write>(
     write!(f, "{word} {first} {second}")
 }
 
+fn write_place<W: fmt::Write>(f: &mut fmt::Formatter<W>, at: Place) -> fmt::Result
+    ensures { DisplaysOnOk W.write_str_gives f.old result (Some (trapping [] at)) f.new }
+{
+    write!(f, " @{}:{}", at.line, at.column)
+}
+
 fn write_one_at<W: fmt::Write>(
     f: &mut fmt::Formatter<W>,
     word: &str,
@@ -71,7 +77,8 @@ fn write_one_at<W: fmt::Write>(
 ) -> fmt::Result
     ensures { DisplaysOnOk W.write_str_gives f.old result (Some (trapping (one_operand word.now first) at)) f.new }
 {
-    write!(f, "{word} {first} @{}:{}", at.line, at.column)
+    write_one(f, word, first)?;
+    write_place(f, at)
 }
 
 fn write_two_at<W: fmt::Write>(
@@ -84,21 +91,164 @@ fn write_two_at<W: fmt::Write>(
     ensures { DisplaysOnOk W.write_str_gives f.old result
         (Some (trapping (two_operands word.now first second) at)) f.new }
 {
-    write!(f, "{word} {first} {second} @{}:{}", at.line, at.column)
+    write_two(f, word, first, second)?;
+    write_place(f, at)
 }
 
 fn write_binary<W: fmt::Write>(
     f: &mut fmt::Formatter<W>,
+    word: &str,
     op: Binary,
     place: Option<Place>,
 ) -> fmt::Result
-    ensures { DisplaysOnOk W.write_str_gives f.old result (Some (instruction_text (instruction.Binary op place)))
-        f.new }
+    ensures { DisplaysOnOk W.write_str_gives f.old result (Some (line_text word.now (operands.Binary op place))) f.new }
 {
-    let word = binary_word(op);
+    write!(f, "{word} {}", binary_word(op))?;
     match place {
-        None => write!(f, "binary {word}"),
-        Some(at) => write!(f, "binary {word} @{}:{}", at.line, at.column),
+        None => Ok(()),
+        Some(at) => write_place(f, at),
+    }
+}
+
+/// What stands after an instruction's word.
+enum Operands {
+    None,
+    Number { value: i32 },
+    One { first: u32 },
+    Two { first: u32, second: u32 },
+    OneAt { first: u32, at: Place },
+    TwoAt { first: u32, second: u32, at: Place },
+    Unary { op: Unary },
+    Binary { op: Binary, place: Option<Place> },
+}
+
+/// The word of an instruction, and what stands after it.
+fn line(step: Instruction) -> (&'static str, Operands)
+    ensures { line_text result.0.now result.1 ≡ instruction_text step }
+{
+    match step {
+        Instruction::Push { value } => ("push", Operands::Number { value }),
+        Instruction::Quiet { value } => ("quiet", Operands::Number { value }),
+        Instruction::Load { slot } => ("load", Operands::One { first: slot }),
+        Instruction::Store { slot } => ("store", Operands::One { first: slot }),
+        Instruction::LoadAt {
+            slot,
+            length,
+            place,
+        } => (
+            "loadat",
+            Operands::TwoAt {
+                first: slot,
+                second: length,
+                at: place,
+            },
+        ),
+        Instruction::StoreAt {
+            slot,
+            length,
+            place,
+        } => (
+            "storeat",
+            Operands::TwoAt {
+                first: slot,
+                second: length,
+                at: place,
+            },
+        ),
+        Instruction::Clear { slot, length } => (
+            "clear",
+            Operands::Two {
+                first: slot,
+                second: length,
+            },
+        ),
+        Instruction::Table { table, place } => (
+            "table",
+            Operands::OneAt {
+                first: table,
+                at: place,
+            },
+        ),
+        Instruction::Get { variable } => ("get", Operands::One { first: variable }),
+        Instruction::Put { variable } => ("put", Operands::One { first: variable }),
+        Instruction::GetAt {
+            variable,
+            length,
+            place,
+        } => (
+            "getat",
+            Operands::TwoAt {
+                first: variable,
+                second: length,
+                at: place,
+            },
+        ),
+        Instruction::PutAt {
+            variable,
+            length,
+            place,
+        } => (
+            "putat",
+            Operands::TwoAt {
+                first: variable,
+                second: length,
+                at: place,
+            },
+        ),
+        Instruction::Unary { op } => ("unary", Operands::Unary { op }),
+        Instruction::Binary { op, place } => ("binary", Operands::Binary { op, place }),
+        Instruction::Truth => ("truth", Operands::None),
+        Instruction::Zero { to } => ("zero", Operands::One { first: to }),
+        Instruction::NonZero { to } => ("nonzero", Operands::One { first: to }),
+        Instruction::Jump { to } => ("jump", Operands::One { first: to }),
+        Instruction::Unit { count } => ("unit", Operands::One { first: count }),
+        Instruction::Fill { counter, turns } => (
+            "fill",
+            Operands::Two {
+                first: counter,
+                second: turns,
+            },
+        ),
+        Instruction::Turn { counter, place } => (
+            "turn",
+            Operands::OneAt {
+                first: counter,
+                at: place,
+            },
+        ),
+        Instruction::Flag { flag, value } => (
+            "flag",
+            Operands::Two {
+                first: flag,
+                second: value as u32,
+            },
+        ),
+        Instruction::Keep { flag } => ("keep", Operands::One { first: flag }),
+        Instruction::Flagged { flag, to } => (
+            "flagged",
+            Operands::Two {
+                first: flag,
+                second: to,
+            },
+        ),
+        Instruction::Fork { par, to } => (
+            "fork",
+            Operands::Two {
+                first: par,
+                second: to,
+            },
+        ),
+        Instruction::Again { par, to } => (
+            "again",
+            Operands::Two {
+                first: par,
+                second: to,
+            },
+        ),
+        Instruction::Pause { to } => ("pause", Operands::One { first: to }),
+        Instruction::End => ("end", Operands::None),
+        Instruction::Call { function } => ("call", Operands::One { first: function }),
+        Instruction::Return => ("return", Operands::None),
     }
 }
 
@@ -111,53 +261,16 @@ impl fmt::Display for Instruction {
     ghost output = { λ i. Some (instruction_text i) };
 
     fn fmt<W: fmt::Write>(&self, f: &mut fmt::Formatter<W>) -> fmt::Result {
-        match *self {
-            Instruction::Push { value } => write!(f, "push {value}"),
-            Instruction::Quiet { value } => write!(f, "quiet {value}"),
-            Instruction::Load { slot } => write_one(f, "load", slot),
-            Instruction::Store { slot } => write_one(f, "store", slot),
-            Instruction::LoadAt {
-                slot,
-                length,
-                place,
-            } => write_two_at(f, "loadat", slot, length, place),
-            Instruction::StoreAt {
-                slot,
-                length,
-                place,
-            } => write_two_at(f, "storeat", slot, length, place),
-            Instruction::Clear { slot, length } => write_two(f, "clear", slot, length),
-            Instruction::Table { table, place } => write_one_at(f, "table", table, place),
-            Instruction::Get { variable } => write_one(f, "get", variable),
-            Instruction::Put { variable } => write_one(f, "put", variable),
-            Instruction::GetAt {
-                variable,
-                length,
-                place,
-            } => write_two_at(f, "getat", variable, length, place),
-            Instruction::PutAt {
-                variable,
-                length,
-                place,
-            } => write_two_at(f, "putat", variable, length, place),
-            Instruction::Unary { op } => write!(f, "unary {}", unary_word(op)),
-            Instruction::Binary { op, place } => write_binary(f, op, place),
-            Instruction::Truth => f.write_str("truth"),
-            Instruction::Zero { to } => write_one(f, "zero", to),
-            Instruction::NonZero { to } => write_one(f, "nonzero", to),
-            Instruction::Jump { to } => write_one(f, "jump", to),
-            Instruction::Unit { count } => write_one(f, "unit", count),
-            Instruction::Fill { counter, turns } => write_two(f, "fill", counter, turns),
-            Instruction::Turn { counter, place } => write_one_at(f, "turn", counter, place),
-            Instruction::Flag { flag, value } => write_two(f, "flag", flag, value as u32),
-            Instruction::Keep { flag } => write_one(f, "keep", flag),
-            Instruction::Flagged { flag, to } => write_two(f, "flagged", flag, to),
-            Instruction::Fork { par, to } => write_two(f, "fork", par, to),
-            Instruction::Again { par, to } => write_two(f, "again", par, to),
-            Instruction::Pause { to } => write_one(f, "pause", to),
-            Instruction::End => f.write_str("end"),
-            Instruction::Call { function } => write_one(f, "call", function),
-            Instruction::Return => f.write_str("return"),
+        let (word, operands) = line(*self);
+        match operands {
+            Operands::None => f.write_str(word),
+            Operands::Number { value } => write!(f, "{word} {value}"),
+            Operands::One { first } => write_one(f, word, first),
+            Operands::Two { first, second } => write_two(f, word, first, second),
+            Operands::OneAt { first, at } => write_one_at(f, word, first, at),
+            Operands::TwoAt { first, second, at } => write_two_at(f, word, first, second, at),
+            Operands::Unary { op } => write!(f, "{word} {}", unary_word(op)),
+            Operands::Binary { op, place } => write_binary(f, word, op, place),
         }
     }
 }

@@ -1,5 +1,5 @@
 -- A kernel's threads have one placement.
-use Rattle.std.proofs.Common.{◌≡◌, ◌==◌, ℕ, suc, ◌≤◌, nat_lt, eqb-true, Bool, true, false, cond, Option, None, Some, option_map, is_none, not, position, unwrap_or, List, [], ◌∷◌, length, map, refl, sym, ap, ◌∙◌, arith}
+use Rattle.std.proofs.Common.{◌≡◌, ◌==◌, ℕ, ◌≤◌, nat_lt, eqb-true, Bool, true, false, cond, Option, None, Some, option_map, is_none, not, position, unwrap_or, List, [], ◌∷◌, length, map, refl, sym, ap, ◌∙◌, arith}
 use Rattle.std.specs.List.{position_or_len}
 use Rattle.std.specs.Option.{option_or}
 use Rattle.std.proofs.lemmas.List.{length-map, length-set, length-replicate}
@@ -7,8 +7,9 @@ use Rattle.std.proofs.lemmas.List.Sorted.{length_permutation}
 use Rattle.core_alloc.specs.declared.fault.PlaceFault.{PlaceFault}
 use Rattle.core_alloc.specs.declared.fault.PlaceFault.TheVariants.{Shape, Count, Core}
 use Rattle.core_alloc.specs.declared.ranked.Ranked.{Ranked}
-use Rattle.core_alloc.specs.Balance.{ranked_from, Balance, placed, placed_all, nothing_placed, balance_of, IsBalanced}
+use Rattle.core_alloc.specs.Balance.{Balance, placed, placed_all, nothing_placed, balance_of, IsBalanced}
 use Rattle.core_alloc.specs.Places.{Places, piece_numbers, is_core, refusal}
+use Rattle.core_alloc.proofs.BalanceLemmas.{ranked_length}
 use Rattle.command_words.specs.Requests.{PlainPlacing}
 use Rattle.forec_kernel.specs.Shapes.{PlainKernel}
 use Rattle.thread_places.specs.Laws.{OnePlacement, SomePlacement}
@@ -118,10 +119,6 @@ listed_one k p text is none = (
 placed_length : (order : List Ranked) (b : Balance) → length (placed_all order b).places ≡ length b.places
 placed_length [] b = refl
 placed_length (r ∷ rs) b = placed_length rs (placed r b) ∙ length-set b.places r.thread _
-
-ranked_length : (at : ℕ) (weights : List ℕ) → length (ranked_from at weights) ≡ length weights
-ranked_length at [] = refl
-ranked_length at (w ∷ ws) = ap suc (ranked_length (suc at) ws)
 
 balanced_one : (k : PlainKernel) (p : PlainPlacing) → p.list ≡ None → (a : Places) × IsPlacement k p a
 balanced_one k p is =

@@ -1,6 +1,6 @@
 -- What holds of a thread of a valid code at each fork: its branches are its own, one that is woken has paused, and there are not too many forks in one job.
 use Rattle.std.proofs.Common.{◌≡◌, ◌≢◌, ℕ, zero, suc, ◌+◌, ◌*◌, ◌<◌, ◌≤◌, ◌==◌, ℤ, Bool, true, false, cond, not, Option, Some, None, List, [], ◌∷◌, ◌++◌, map, length, get_or, refl, sym, ap, ◌∙◌, subst, ⊎_elim, append_assoc, append-nil, arith}
-use Rattle.std.specs.Prelude.{slice_get, slice_set, nat_lt, IsTrue}
+use Rattle.std.specs.Prelude.{slice_get, slice_set, nat_lt}
 use Rattle.std.proofs.lemmas.Bool.{cases_lt}
 use Rattle.std.proofs.lemmas.Bool.Decides.{nat_tests}
 use Rattle.std.proofs.lemmas.Option.{slice_get_within}
@@ -10,11 +10,12 @@ use Rattle.forec_base.specs.declared.Trap.{Trap}
 use Rattle.forec_base.specs.declared.Trap.TheVariants.{Divide, Index}
 use Rattle.forec_kernel.specs.declared.shape.VarCopy.{VarCopy}
 use Rattle.forec_kernel.specs.Shapes.{PlainThread}
-use Rattle.forec_kernel.specs.Combining.{contains, takes_part, variable_of}
+use Rattle.forec_kernel.specs.Combining.{takes_part, variable_of}
 use Rattle.forec_kernel.specs.Values.{copy_of, word, index_in, place_or}
 use Rattle.forec_kernel.specs.WellFormed.{branches_of, is_par, thread_of}
 use Rattle.forec_kernel.specs.Solo.{some_reply_over, all_units}
 use Rattle.forec_kernel.specs.Engine.{Reply, WasPaused, WasEnded, WasTrapped, WasOver, Seed, Starts, Wakes, written, Going, AtFork, Answered, pair_up}
+use Rattle.forec_kernel.proofs.Each.{Each, each_in}
 use Rattle.thread_code.specs.declared.instruction.Instruction.{Instruction}
 use Rattle.thread_code.specs.declared.instruction.Instruction.TheVariants as instruction
 use Rattle.thread_code.specs.Plain.{PlainBlock, PlainCode}
@@ -81,9 +82,6 @@ same_is a b e = grind (arith, nat_tests)
 other_is : (a b : ℕ) → (a == b) ≡ false → b ≢ a
 other_is a b e h = grind (arith, nat_tests)
 
-is_same : (a : ℕ) → (a == a) ≡ true
-is_same a = grind (arith, nat_tests)
-
 -- one branch has replied
 live_one : (past : List Answered) (live : List Bool) (x : Answered) → Lively past live → ArePlain (x.reply ∷ []) → Lively (past ++ x ∷ []) (put_at false live x.branch (not (is_ended x.reply)))
 live_one past live x lively plain b h = by_test (x.branch == b) refl
@@ -136,20 +134,7 @@ Rising [] = Unit {0}
 Rising (b ∷ bs) = AllAbove b bs × Rising bs
 
 abbrev pub AllAre : (ℕ → Type 0) → List ℕ → Type 0
-AllAre Q [] = Unit {0}
-AllAre Q (b ∷ bs) = Q b × AllAre Q bs
-
-all_are : (Q : ℕ → Type 0) (bs : List ℕ) → ((b : ℕ) → IsTrue (contains b bs) → Q b) → AllAre Q bs
-all_are Q [] h = tt
-all_are Q (a ∷ rest) h = (h a (held (a == a) a (is_same a)), all_are Q rest (λ b g. h b (later (a == b) b g)))
-  where
-    held : (t : Bool) (b : ℕ) → t ≡ true → IsTrue (cond t true (contains b rest))
-    held true b e = refl
-    held false b e = cc
-
-    later : (t : Bool) (b : ℕ) → IsTrue (contains b rest) → IsTrue (cond t true (contains b rest))
-    later true b g = refl
-    later false b g = g
+AllAre Q bs = Each Q bs
 
 -- with a first one or without it
 one_if : (P : List ℕ → Type 0) (test : Bool) (b : ℕ) (l : List ℕ) → (test ≡ true → P (b ∷ l)) → P l → P (cond test (b ∷ l) l)
@@ -387,7 +372,7 @@ module _ (c : PlainCode) (valid : IsValidCode c) (t : ℕ) where
 
       fork_mine : (j : ℕ) → IsParOf c.shape (Some t) j → AllAre (IsMine c t) (branches_in c.shape j)
       fork_mine j par =
-          both (branches_in c.shape j) (all_are (λ b. (thread_of (of_shape c.shape) b).parent ≡ Some t) (branches_in c.shape j) (λ b m. par.parent b m ∙ sym par.is))
+          both (branches_in c.shape j) (each_in (λ b. (thread_of (of_shape c.shape) b).parent ≡ Some t) (branches_in c.shape j) (λ b m. par.parent b m ∙ sym par.is))
           (below_all c.shape.threads 0 j (length c.shape.threads) (omega arith))
         where
           both : (bs : List ℕ) → AllAre (λ b. (thread_of (of_shape c.shape) b).parent ≡ Some t) bs → AllAre (λ b. b < length c.shape.threads) bs → AllAre (IsMine c t) bs

@@ -14,3 +14,5 @@ pub mod Logs
 pub mod AfterFork
 pub mod Forks
 pub mod RunTick
+pub mod BranchLoops
+pub mod DidLemmas

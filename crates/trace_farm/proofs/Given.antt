@@ -9,16 +9,16 @@ use Rattle.forec_kernel.specs.WellFormed.{WellFormed}
 use Rattle.forec_kernel.specs.Composed.{TickInput}
 use Rattle.thread_code.specs.Alone.{Stands}
 use Rattle.thread_code.specs.Plain.{PlainCode}
-use Rattle.trace_runs.specs.Ends.{IsOwn, Given}
-use Rattle.trace_runs.specs.Hosting.{CodeFollows}
-use Rattle.trace_runs.specs.KernelNames.{run_format}
-use Rattle.trace_runs.specs.Led.{IsTold, IsTraceReport}
-use Rattle.trace_runs.specs.declared.format.Format.{Format}
-use Rattle.trace_runs.specs.declared.format.Telling.TheVariants as telling
-use Rattle.trace_runs.specs.Report.{Report, trace_report}
-use Rattle.trace_runs.specs.StatusNumbers.{status_number}
-use Rattle.trace_runs.specs.Ticking.{Starts}
-use Rattle.trace_runs.specs.declared.status.Status.{Status}
+use Rattle.trace_ticks.specs.Ends.{IsOwn, Given}
+use Rattle.trace_ticks.specs.Following.{CodeFollows}
+use Rattle.trace_ticks.specs.KernelNames.{run_format}
+use Rattle.trace_ticks.specs.Led.{IsTold, IsTraceReport}
+use Rattle.trace_ticks.specs.declared.format.Format.{Format}
+use Rattle.trace_ticks.specs.declared.format.Telling.TheVariants as telling
+use Rattle.trace_ticks.specs.Report.{Report, trace_report}
+use Rattle.trace_ticks.specs.StatusNumbers.{status_number}
+use Rattle.trace_ticks.specs.Ticking.{Starts}
+use Rattle.trace_ticks.specs.declared.status.Status.{Status}
 use Rattle.trace_farm.specs.declared.farm_report.FarmReport.{FarmReport}
 use Rattle.trace_farm.specs.Farm.{NumberedReport, with_number, plain_report, KeepsReport, report_of, IsReportOf, AreReportsOf, AreReportsFor}
 

@@ -10,11 +10,11 @@ use Rattle.thread_code.specs.declared.instruction.CodeParts.{CodeParts}
 use Rattle.core_alloc.specs.Places.{Places}
 use Rattle.core_host.specs.Hosted.{Hosted, is_live, IsWhole}
 use Rattle.core_host.specs.Runs.{HostHasRun}
-use Rattle.trace_runs.specs.KernelNames.{run_format}
-use Rattle.trace_runs.specs.Report.{Report, trace_report}
-use Rattle.trace_runs.specs.declared.format.Telling.TheVariants as telling
-use Rattle.trace_runs.specs.StatusNumbers.{status_number}
-use Rattle.trace_runs.specs.declared.status.Status.{Status}
+use Rattle.trace_ticks.specs.KernelNames.{run_format}
+use Rattle.trace_ticks.specs.Report.{Report, trace_report}
+use Rattle.trace_ticks.specs.declared.format.Telling.TheVariants as telling
+use Rattle.trace_ticks.specs.StatusNumbers.{status_number}
+use Rattle.trace_ticks.specs.declared.status.Status.{Status}
 use Rattle.trace_farm.specs.declared.farm_report.FarmReport.{FarmReport}
 
 -- a report with the number of its status

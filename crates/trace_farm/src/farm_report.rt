@@ -1,11 +1,11 @@
 //! What a farm gives for a trace.
 
 ghost use Rattle.std.specs.Prelude.{◌≡◌, IfOk};
-ghost use Rattle.trace_runs.specs.Ends.{IsOwn};
+ghost use Rattle.trace_ticks.specs.Ends.{IsOwn};
 ghost use Rattle.trace_farm.specs.Farm.{KeepsReport};
 
 use forec_base::OutOfMemory;
-use trace_runs::Status;
+use trace_ticks::Status;
 
 /// The report of a trace: what a run over it writes, and the number of the status with which it ends.
 #[derive(Drop)]

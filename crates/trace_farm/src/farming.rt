@@ -19,7 +19,8 @@ use forec_base::{Gate, OutOfMemory};
 use std::alloc::Global;
 use std::sync::Wait;
 use thread_code::Code;
-use trace_runs::{Alone, Company, Nobody, Session, Telling, run};
+use trace_runs::Alone;
+use trace_ticks::{Company, Nobody, Session, Telling, run};
 
 /// The lines after those of the ticks take so many bytes at most.
 const LAST_LINES: usize = 128;

@@ -1,20 +1,11 @@
--- What runs a code follows.
+-- What hosts follow, and one core with all threads.
 use Rattle.std.specs.Prelude.{List}
 use Rattle.forec_kernel.specs.Composed.{TickInput}
 use Rattle.forec_kernel.specs.Shapes.{PlainKernel}
-use Rattle.forec_kernel.specs.WellFormed.{WellFormed}
-use Rattle.thread_code.specs.Alone.{Stands}
-use Rattle.thread_code.specs.Plain.{PlainCode}
 use Rattle.core_host.specs.Hosted as hosted
 use Rattle.core_host.specs.Runs as runs
 use Rattle.one_core.specs.Single as single
-use Rattle.trace_runs.specs.declared.status.Status.{Status}
-
--- a code stands for a kernel, and these ticks were run
-pub record CodeFollows (c : PlainCode) (Ran : List TickInput → Type 0) (k : PlainKernel) (turns : List TickInput) : Type 0 where
-  pub formed : WellFormed k
-  pub stands : Stands c k
-  pub ran : Ran turns
+use Rattle.trace_ticks.specs.Following.{CodeFollows}
 
 -- the code is that of a host
 abbrev pub HostFollows : hosted.Hosted → PlainKernel → List TickInput → Type 0
@@ -23,7 +14,3 @@ HostFollows h = CodeFollows (hosted.code_of h) (runs.HostHasRun h)
 -- the code has all threads on one core
 abbrev pub OneFollows : single.Single → PlainKernel → List TickInput → Type 0
 OneFollows o = CodeFollows (single.single_code o) (single.OneCoreHasRun o)
-
--- this was done with each kernel for which a code stands
-abbrev pub DidForEach : PlainCode → (PlainKernel → Status → Type 0) → Status → Type 0
-DidForEach c Did end = (k : PlainKernel) → WellFormed k → Stands c k → Did k end

@@ -1,16 +1,3 @@
-pub mod Ends
-pub mod Formats
 pub mod Hosting
-pub mod KernelNames
-pub mod Led
-pub mod OneRun
 pub mod Orders
-pub mod Prints
-pub mod Progress
-pub mod Report
 pub mod Rewriting
-pub mod Sessions
-pub mod StatusNumbers
-pub mod Ticking
-pub mod WaitingRoom
-pub mod Workload

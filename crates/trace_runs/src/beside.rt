@@ -3,14 +3,10 @@
 ghost use Rattle.std.specs.Prelude.{◌≡◌, [], true, IfOk, OnErr};
 ghost use Rattle.core_host.specs.Hosted.{code_of, is_here, is_live};
 ghost use Rattle.core_host.specs.Runs.{HostHasRun};
-ghost use Rattle.trace_runs.specs.Hosting.{DidForEach};
-ghost use Rattle.trace_runs.specs.Ticking.{CanLead, DidFromStart};
+ghost use Rattle.trace_ticks.specs.Following.{DidForEach};
+ghost use Rattle.trace_ticks.specs.Ticking.{CanLead, DidFromStart};
 
 use crate::hosted::{Root, StopWorkers};
-use crate::lead::Lead;
-use crate::setting::{Company, Setting};
-use crate::status::Status;
-use crate::ticker::Ticker;
 use copy_slots::Port;
 use core_bells::{Bed, Rings, Rung};
 use core_host::{Host, Worker};
@@ -19,6 +15,7 @@ use forec_base::{Gate, OutOfMemory};
 use std::alloc::{AllocError, Global};
 use std::sync::{Mutex, MutexGuard, Wait};
 use std::thread::{Threads, available_parallelism};
+use trace_ticks::{Company, Lead, Setting, Status, Ticker};
 use worker_scope::{Runnable, with_workers};
 
 /// A worker in its lock, with its core.

@@ -3,8 +3,6 @@
 ghost use Rattle.std.specs.Prelude.{◌≡◌, true};
 ghost use Rattle.core_host.specs.Hosted.{is_here};
 
-use crate::setting::Company;
-use crate::ticker::Ticker;
 use copy_slots::Port;
 use core_host::Host;
 use core_seats::{ForecWork, Serve};
@@ -12,6 +10,7 @@ use forec_base::{Gate, OutOfMemory};
 use forec_kernel::Outcome;
 use one_core::OneCore;
 use std::sync::Wait;
+use trace_ticks::{Company, Ticker};
 
 /// The host of thread 0, which ticks beside the hosts of other cores.
 #[derive(Drop)]
@@ -95,18 +94,24 @@ impl<'c, P: Port<ForecWork> + Drop> Ticker for Alone<'c, P> {
     }
 }
 
-impl<'c> Ticker for OneCore<'c> {
+/// One core that has all threads, with nobody beside it.
+#[derive(Drop)]
+pub struct OnOneCore<'c> {
+    pub core: OneCore<'c>,
+}
+
+impl<'c> Ticker for OnOneCore<'c> {
     ghost use Rattle.std.specs.Prelude.{◌≡◌, true};
     ghost use Rattle.one_core.specs.Single.{single_code, single_is_live};
     ghost use Rattle.trace_runs.specs.Hosting.{OneFollows};
 
-    ghost shape = { λ o. (single_code o).shape };
+    ghost shape = { λ s. (single_code s.core).shape };
 
-    ghost follows = { λ o. OneFollows o };
+    ghost follows = { λ s. OneFollows s.core };
 
-    ghost live = { λ o. single_is_live o ≡ true };
+    ghost live = { λ s. single_is_live s.core ≡ true };
 
-    ghost ready = { λ o. true };
+    ghost ready = { λ s. true };
 
     fn tick<O: Serve, G: Gate, R: Wait>(
         &mut self,
@@ -115,6 +120,6 @@ impl<'c> Ticker for OneCore<'c> {
         budget: u64,
         outputs: &mut [i32],
     ) -> Result<Outcome, OutOfMemory> {
-        Ok(OneCore::tick(self, row, budget, company.gate, outputs))
+        Ok(self.core.tick(row, budget, company.gate, outputs))
     }
 }

@@ -7,20 +7,14 @@ ghost use Rattle.thread_code.specs.Plain.{plain_code};
 ghost use Rattle.core_alloc.specs.Places.{is_on_one_core};
 ghost use Rattle.board_hosts.specs.Boards.{ArePorts};
 ghost use Rattle.core_bells.specs.Ropes.{new_ropes};
-ghost use Rattle.trace_runs.specs.Hosting.{DidForEach};
-ghost use Rattle.trace_runs.specs.KernelNames.{run_format};
-ghost use Rattle.trace_runs.specs.Led.{RunsRows};
-ghost use Rattle.trace_runs.specs.Prints.{PrintsReport};
-ghost use Rattle.trace_runs.specs.Workload.{ticked_report};
+ghost use Rattle.trace_ticks.specs.Following.{DidForEach};
+ghost use Rattle.trace_ticks.specs.KernelNames.{run_format};
+ghost use Rattle.trace_ticks.specs.Led.{RunsRows};
+ghost use Rattle.trace_ticks.specs.Prints.{PrintsReport};
+ghost use Rattle.trace_ticks.specs.Workload.{ticked_report};
 
 use crate::beside::lead_hosts;
-use crate::format::Telling;
-use crate::lead::Lead;
-use crate::session::Session;
-use crate::setting::{Company, Nobody, Setting};
-use crate::status::Status;
-use crate::trace_run::TraceRun;
-use crate::workload_run::WorkloadRun;
+use crate::hosted::OnOneCore;
 use board_hosts::{Hosts, board_of, hosts_of};
 use code_gen::generate;
 use core_alloc::Placement;
@@ -33,6 +27,9 @@ use slot_board::{GivesPorts, SlotBoard};
 use std::sync::Wait;
 use std::thread::Threads;
 use thread_code::Code;
+use trace_ticks::{
+    Company, Lead, Nobody, Session, Setting, Status, Telling, TraceRun, WorkloadRun,
+};
 
 /// Leads by the hosts of a code, over a board and bells that gave out nothing yet.
 ///
@@ -98,7 +95,8 @@ fn lead_alone<J: Lead, G: Gate, R: Wait>(
     ensures ok { IfOk result (DidForEach (plain_code code.now) (J.did job.old job.new)) }
     ensures err { OnErr result (job.new ≡ job.old) }
 {
-    let mut one = OneCore::load(setting.alloc, code, placement)?;
+    let core = OneCore::load(setting.alloc, code, placement)?;
+    let mut one = OnOneCore { core };
     let mut company = Company {
         rt: setting.rt,
         gate: setting.gate,

@@ -7,14 +7,13 @@ ghost use Rattle.tick_jobs.specs.Outcomes.{HasOutputs};
 ghost use Rattle.kernel_meaning.specs.States.{plain_state};
 
 use crate::orders::order;
-use crate::setting::Company;
-use crate::ticker::Ticker;
 use core_seats::Serve;
 use forec_base::{Gate, OutOfMemory};
 use forec_kernel::{Kernel, Outcome};
 use kernel_meaning::{State, rewrite_tick};
 use std::alloc::Global;
 use std::sync::Wait;
+use trace_ticks::{Company, Ticker};
 
 /// A program that runs by rewriting: its kernel, where it stands, the order of the steps of each tick, and whether
 /// each tick so far has paused.

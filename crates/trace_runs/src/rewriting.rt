@@ -3,18 +3,14 @@
 ghost use Rattle.std.specs.Prelude.{◌≤◌, ⊤};
 ghost use Rattle.forec_base.specs.declared.limits.TheConstants.{MAX_BUDGET};
 ghost use Rattle.forec_kernel.specs.Shapes.{plain_kernel};
-ghost use Rattle.trace_runs.specs.KernelNames.{run_format};
-ghost use Rattle.trace_runs.specs.Led.{RunsRows};
+ghost use Rattle.trace_ticks.specs.KernelNames.{run_format};
+ghost use Rattle.trace_ticks.specs.Led.{RunsRows};
 
-use crate::format::Telling;
 use crate::rewriter::Rewriter;
-use crate::session::Session;
-use crate::setting::{Company, Nobody, Setting};
-use crate::status::Status;
-use crate::ticks::run;
 use forec_base::{Gate, MAX_ROWS, Sink, Source};
 use forec_kernel::Kernel;
 use std::sync::Wait;
+use trace_ticks::{Company, Nobody, Session, Setting, Status, Telling, run};
 
 /// Runs a kernel over a trace by rewriting its texts, each tick in the order of steps with this number, and writes what
 /// is told of it. A tick may have so many units.

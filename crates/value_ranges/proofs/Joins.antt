@@ -23,7 +23,7 @@ shares_fit : (k : PlainKernel) (v j : ℕ) (cs : Threads) → ThreadsFit cs → 
 shares_fit k v j no_threads h = tt
 shares_fit k v j (child t R w c st rest) h =
     one_share (is_active st && contains v (uses_of k t)) (record { from = j; copy = copy_of (uses_of k t) c v }) (shares k v (suc j) rest)
-    (copy_fits (uses_of k t) c v h.2) (shares_fit k v (suc j) rest h.3)
+    (copy_fits (uses_of k t) c v h.1.1) (shares_fit k v (suc j) rest h.2)
 
 taking_fit : (policy : Policy) (base : ℤ) (ss : List Share) → SharesFit ss → SharesFit (taking_part policy base ss)
 taking_fit policy base [] h = tt

@@ -1,6 +1,8 @@
+pub mod Words
 pub mod Numbers
 pub mod Lists
 pub mod Values
+pub mod RunningTexts
 pub mod Texts
 pub mod Joins
 pub mod Moves

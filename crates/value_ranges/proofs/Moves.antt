@@ -13,10 +13,11 @@ use Rattle.forec_kernel.specs.Values.{Value, Gives, Raises, Values, AllGive, One
 use Rattle.forec_kernel.specs.Texts.{Loop, After, Status, RunningText, Done, Run, Then, Turning, Resting, Fork, Held, Watch, Last, Threads, no_threads, child, child_of, text_of, some_running, all_over, first_trap, ended_are_gone, uses_of, words_of, params_of, body_of}
 use Rattle.forec_kernel.specs.Combining.{Cost, Costs, Fails, join_cost}
 use Rattle.forec_kernel.specs.Steps.{Path, Owner, evaluated, Move, Finished, Halts, Moves, Traps, more_move, move_with, assigned, assigned_at, shared_at, turned_loop, entered_abort, Arguments, Ready, Refused, one_more_list, arguments_then, arguments, started, forked, statement_move, loop_move, combined, joined, move_before, move_watched, move_last, thread_after, child_place, path_below, text_move, child_move}
-use Rattle.value_ranges.specs.Words.{AreWords, ExprWords, BranchesWords, StmtWords, KernelWords}
+use Rattle.value_ranges.specs.Words.{AreWords, KernelWords}
+use Rattle.value_ranges.proofs.Words.{ExprWords, BranchesWords, StmtWords}
 use Rattle.value_ranges.proofs.Lists.{all_get, all_set, all_take}
 use Rattle.value_ranges.proofs.Values.{CopiesFit, cleared_fits, fresh_fits, ValueFits, ValuesFitAll, SightFits, SettingFits, val_fits, vals_fits, kernel_fits}
-use Rattle.value_ranges.proofs.Texts.{LoopFits, AfterFits, TextFits, ThreadsFit, text_fits, texts_fit, after_fits, handed_fits, put_fits, gone_fit}
+use Rattle.value_ranges.proofs.Texts.{LoopFits, AfterFits, TextFits, ThreadsFit, text_fits, texts_fit, after_fits, handed_fits, put_fits, gone_fit, chosen_fits, entered_fits}
 use Rattle.value_ranges.proofs.Joins.{joined_fit}
 
 abbrev pub MoveFits : Move → Type 0
@@ -34,15 +35,6 @@ more_move_fits u (Traps place trap v) h = tt
 with_fits : (v : Value) (go : ℤ → Move) → ValueFits v → ((n : ℤ) → FitsSigned w32 n → MoveFits (go n)) → MoveFits (move_with v go)
 with_fits (Gives n u) go h g = more_move_fits u (go n) (g n h)
 with_fits (Raises place trap u) go h g = tt
-
-chosen_fits : (b : Bool) (R S : RunningText) → TextFits R → TextFits S → TextFits (cond b R S)
-chosen_fits true R S h g = h
-chosen_fits false R S h g = g
-
-entered_fits : (weak : Bool) (e : Expr) (body : Stmt) (n : ℤ) → ExprWords e → StmtWords body → TextFits (entered_abort weak e body n)
-entered_fits false e body n h g = chosen_fits (is_zero n) (Watch false e (text_of body)) Done (h, text_fits body g) tt
-entered_fits true e body n h g =
-    chosen_fits (is_zero n) (Watch true e (text_of body)) (Last (text_of body)) (h, text_fits body g) (text_fits body g)
 
 turned_fits : (loop : Loop) (left : Option ℕ) (words : List ℤ) (copies : List VarCopy) → LoopFits loop → AreWords words → CopiesFit copies →
     MoveFits (turned_loop loop left words copies)
@@ -84,8 +76,7 @@ module _ (k : PlainKernel) (numbers : KernelWords k) where
   started_fit uses copies (b ∷ bs) [] c h = tt
   started_fit uses copies (b ∷ bs) (ns ∷ lists) c h = (
     text_fits (body_of k b.thread) (body_fits b.thread),
-    fresh_fits (take (params_of k b.thread) ns) (words_of k b.thread) (all_take (FitsSigned w32) (params_of k b.thread) ns h.0),
-    handed_fits uses copies (uses_of k b.thread) c,
+    (fresh_fits (take (params_of k b.thread) ns) (words_of k b.thread) (all_take (FitsSigned w32) (params_of k b.thread) ns h.0), handed_fits uses copies (uses_of k b.thread) c),
     started_fit uses copies bs lists c h.1,
   )
 
@@ -196,7 +187,7 @@ module _ (k : PlainKernel) (numbers : KernelWords k) where
       ThreadsFit (child_of (thread_after (record { number = t; text = R; words = w; copies = c; status = st }) m) rest)
   child_after t R w c st rest h Finished g = h
   child_after t R w c st rest h Halts g = h
-  child_after t R w c st rest h (Moves R' w' c' u) g = (g.0, g.1, g.2, h.3)
+  child_after t R w c st rest h (Moves R' w' c' u) g = (g.0, (g.1, g.2), h.2)
   child_after t R w c st rest h (Traps place trap u) g = h
 
   mutual
@@ -220,5 +211,5 @@ module _ (k : PlainKernel) (numbers : KernelWords k) where
     child_fits : (path : Path) (i : ℕ) (cs : Threads) → ThreadsFit cs → ThreadsFit (child_move k path i cs).children
     child_fits path i no_threads h = tt
     child_fits path zero (child t R w c st rest) h =
-        child_after t R w c st rest h (text_move k path (uses_of k t) w c R) (move_fits path (uses_of k t) w c R h.1 h.2 h.0)
-    child_fits path (suc i) (child t R w c st rest) h = (h.0, h.1, h.2, child_fits path i rest h.3)
+        child_after t R w c st rest h (text_move k path (uses_of k t) w c R) (move_fits path (uses_of k t) w c R h.1.0 h.1.1 h.0)
+    child_fits path (suc i) (child t R w c st rest) h = (h.0, h.1, child_fits path i rest h.2)

@@ -1,62 +1,50 @@
 -- Running texts whose numbers fit 32 bits, and the threads in them.
-use Rattle.std.proofs.Common.{ℕ, ◌==◌, Bool, true, false, cond, List, [], ◌∷◌, FitsSigned, w32}
+use Rattle.std.proofs.Common.{ℕ, ◌==◌, Bool, true, false, cond, ℤ, List, [], ◌∷◌, FitsSigned, w32}
 use Rattle.forec_kernel.specs.declared.shape.VarCopy.{VarCopy}
-use Rattle.forec_kernel.specs.Terms.{Stmt, Nop, Set, SetAt, PutAt, Clear, Seq, If, While, Pause, Par, Enter, Return, Stmts, no_stmts, more_stmts}
-use Rattle.forec_kernel.specs.Texts.{Loop, After, Go_on, Again, RunningText, Done, Run, Then, Turning, Resting, Fork, Held, Watch, Last, Threads, no_threads, child, text_of, texts_of, then_list, after_text, ended_are_gone, handed_down, put_copy}
-use Rattle.value_ranges.specs.Words.{AreWords, ExprWords, StmtWords, StmtsWords}
+use Rattle.forec_kernel.specs.Terms.{Expr, Stmt, Stmts}
+use Rattle.forec_kernel.specs.Texts.{Loop, After, Status, RunningText, Threads, text_of, texts_of, after_text, ended_are_gone, handed_down, put_copy}
+use Rattle.forec_kernel.specs.Steps.{entered_abort, refilled}
+use Rattle.value_ranges.specs.Words.{AreWords, fitting_words}
+use Rattle.value_ranges.proofs.Words.{ExprWords, StmtWords, StmtsWords}
+use Rattle.value_ranges.proofs.RunningTexts.{LoopHolds, AfterHolds, RunningHolds, ThreadsHold, text_holds, texts_hold, after_holds, gone_hold, chosen_holds, entered_holds, refilled_holds}
 use Rattle.value_ranges.proofs.Values.{CopiesFit, copy_fits}
 
+-- the numbers of a thread and its copies fit
+abbrev OwnFits : List ℤ → List VarCopy → Status → Type 0
+OwnFits w c st = AreWords w × CopiesFit c
+
 abbrev pub LoopFits : Loop → Type 0
-LoopFits loop = ExprWords loop.test × StmtWords loop.body
+LoopFits = LoopHolds fitting_words
 
 abbrev pub AfterFits : After → Type 0
-AfterFits (Go_on list) = StmtsWords list
-AfterFits (Again loop) = LoopFits loop
+AfterFits = AfterHolds fitting_words
 
-abbrev mutual
-  pub TextFits : RunningText → Type 0
-  TextFits Done = Unit {0}
-  TextFits (Run s) = StmtWords s
-  TextFits (Then R a) = TextFits R × AfterFits a
-  TextFits (Turning loop) = LoopFits loop
-  TextFits Resting = Unit {0}
-  TextFits (Fork cs) = ThreadsFit cs
-  TextFits (Held cs) = ThreadsFit cs
-  TextFits (Watch weak e R) = ExprWords e × TextFits R
-  TextFits (Last R) = TextFits R
+abbrev pub TextFits : RunningText → Type 0
+TextFits = RunningHolds fitting_words OwnFits
 
-  pub ThreadsFit : Threads → Type 0
-  ThreadsFit no_threads = Unit {0}
-  ThreadsFit (child t R w c st rest) = TextFits R × AreWords w × CopiesFit c × ThreadsFit rest
+abbrev pub ThreadsFit : Threads → Type 0
+ThreadsFit = ThreadsHold fitting_words OwnFits
 
--- ---- reading a statement as a text
+pub text_fits : (s : Stmt) → StmtWords s → TextFits (text_of s)
+text_fits = text_holds fitting_words OwnFits
 
-then_list_fits : (R : RunningText) (rest : Stmts) → TextFits R → StmtsWords rest → TextFits (then_list R rest)
-then_list_fits R no_stmts h g = h
-then_list_fits R (more_stmts s rest) h g = (h, g)
-
-mutual
-  pub text_fits : (s : Stmt) → StmtWords s → TextFits (text_of s)
-  text_fits Nop h = tt
-  text_fits (Set to e) h = h
-  text_fits (SetAt slot n i e place) h = h
-  text_fits (PutAt v n i e place) h = h
-  text_fits (Clear slot n) h = h
-  text_fits (Seq list) h = texts_fit list h
-  text_fits (If e a b) h = h
-  text_fits (While e bound body place) h = h
-  text_fits Pause h = h
-  text_fits (Par branches) h = h
-  text_fits (Enter weak immediate e body) h = h
-  text_fits (Return e) h = h
-
-  pub texts_fit : (list : Stmts) → StmtsWords list → TextFits (texts_of list)
-  texts_fit no_stmts h = tt
-  texts_fit (more_stmts s rest) h = then_list_fits (text_of s) rest (text_fits s h.0) h.1
+pub texts_fit : (list : Stmts) → StmtsWords list → TextFits (texts_of list)
+texts_fit = texts_hold fitting_words OwnFits
 
 pub after_fits : (a : After) → AfterFits a → TextFits (after_text a)
-after_fits (Go_on list) h = texts_fit list h
-after_fits (Again loop) h = h
+after_fits = after_holds fitting_words OwnFits
+
+pub gone_fit : (cs : Threads) → ThreadsFit cs → ThreadsFit (ended_are_gone cs)
+gone_fit = gone_hold fitting_words OwnFits (λ w c st h. h)
+
+pub chosen_fits : (b : Bool) (R S : RunningText) → TextFits R → TextFits S → TextFits (cond b R S)
+chosen_fits = chosen_holds fitting_words OwnFits
+
+pub entered_fits : (weak : Bool) (e : Expr) (body : Stmt) (n : ℤ) → ExprWords e → StmtWords body → TextFits (entered_abort weak e body n)
+entered_fits = entered_holds fitting_words OwnFits
+
+pub refilled_fits : (a : After) → AfterFits a → AfterFits (refilled a)
+refilled_fits = refilled_holds fitting_words
 
 -- ---- copies
 
@@ -73,9 +61,3 @@ put_fits (u ∷ uses) (c ∷ copies) v new h g = pick (u == v) (put_fits uses co
     pick : (b : Bool) → CopiesFit (put_copy uses copies v new) → CopiesFit (cond b (new ∷ copies) (c ∷ put_copy uses copies v new))
     pick true f = (g, h.1)
     pick false f = (h.0, f)
-
--- ---- children
-
-pub gone_fit : (cs : Threads) → ThreadsFit cs → ThreadsFit (ended_are_gone cs)
-gone_fit no_threads h = tt
-gone_fit (child t R w c st rest) h = (h.0, h.1, h.2, gone_fit rest h.3)

@@ -10,7 +10,8 @@ use Rattle.forec_kernel.specs.declared.shape.VarCopy.{VarCopy}
 use Rattle.forec_kernel.specs.Terms.{Expr, Num, Local, LocalAt, Var, SharedAt, TableAt, Un, Bin, And, Or, Choose, Call, Exprs, no_exprs, more_exprs, Stmt, Nop, Set, SetAt, PutAt, Clear, Seq, If, While, Pause, Par, Enter, Return, Stmts, no_stmts, more_stmts}
 use Rattle.forec_kernel.specs.Shapes.{PlainKernel}
 use Rattle.forec_kernel.specs.Values.{word, cleared, copy_of, index_in, Value, Gives, Raises, more_units, value_then, Values, AllGive, OneRaises, one_more, first_then, values_then, Setting, setting, Sight, divided, at_index, val, vals, Flow, Goes, Returns, Breaks, more_flow, flow_with, flow_then, words_alone, stored_at, stored_flow, turns, flow, flows, flow_value, fresh_words, function_words, call_within}
-use Rattle.value_ranges.specs.Words.{AreWords, ExprWords, ExprsWords, StmtWords, StmtsWords, KernelWords}
+use Rattle.value_ranges.specs.Words.{AreWords, KernelWords}
+use Rattle.value_ranges.proofs.Words.{ExprWords, ExprsWords, StmtWords, StmtsWords}
 use Rattle.value_ranges.proofs.Numbers.{zero_fits, one_fits, truth_fits, unary_fits, OptionFits, binary_fits}
 use Rattle.value_ranges.proofs.Lists.{all_get, all_set, all_append, all_replicate}
 
@@ -102,16 +103,16 @@ module _ (s : Setting) (fits : SettingFits s) where
     val_fits e h (Num n) w = w
     val_fits e h (Local slot) w = word_fits e.words slot h.words
     val_fits e h (LocalAt slot n i place) w =
-        then_fits (val s e i) (λ k. at_index (index_in n k) (λ j. word e.words (slot + j)) place) (val_fits e h i w)
+        then_fits (val s e i) (λ k. at_index (index_in n k) (λ j. word e.words (slot + j)) place) (val_fits e h i w.0)
         (λ k g. at_fits (index_in n k) (λ j. word e.words (slot + j)) place (λ j. word_fits e.words (slot + j) h.words))
     val_fits e h (Var v) w = copy_fits e.uses e.copies v h.copies
     val_fits e h (SharedAt v n i place) w =
-        then_fits (val s e i) (λ k. at_index (index_in n k) (λ j. (copy_of e.uses e.copies (v + j)).value) place) (val_fits e h i w)
+        then_fits (val s e i) (λ k. at_index (index_in n k) (λ j. (copy_of e.uses e.copies (v + j)).value) place) (val_fits e h i w.0)
         (λ k g. at_fits (index_in n k) (λ j. (copy_of e.uses e.copies (v + j)).value) place
         (λ j. copy_fits e.uses e.copies (v + j) h.copies))
     val_fits e h (TableAt t i place) w =
         let table = get_or s.tables t [] in
-        then_fits (val s e i) (λ k. at_index (index_in (length table) k) (λ j. word table j) place) (val_fits e h i w)
+        then_fits (val s e i) (λ k. at_index (index_in (length table) k) (λ j. word table j) place) (val_fits e h i w.0)
         (λ k g. at_fits (index_in (length table) k) (λ j. word table j) place
         (λ j. word_fits table j (all_get AreWords s.tables t [] fits.tables tt)))
     val_fits e h (Un op a) w =

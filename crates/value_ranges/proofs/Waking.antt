@@ -5,11 +5,11 @@ use Rattle.forec_kernel.specs.declared.shape.VarCopy.{VarCopy}
 use Rattle.forec_kernel.specs.Terms.{Expr}
 use Rattle.forec_kernel.specs.Shapes.{PlainKernel}
 use Rattle.forec_kernel.specs.Values.{Value, Gives, Raises}
-use Rattle.forec_kernel.specs.Texts.{After, Go_on, Again, Running, Paused, Ended, Gone, Trapped, RunningText, Done, Run, Then, Turning, Resting, Fork, Held, Watch, Last, Threads, no_threads, child, uses_of, handed_down}
+use Rattle.forec_kernel.specs.Texts.{Running, Paused, Ended, Gone, Trapped, RunningText, Done, Run, Then, Turning, Resting, Fork, Held, Watch, Last, Threads, no_threads, child, uses_of, handed_down}
 use Rattle.forec_kernel.specs.Steps.{evaluated, Woken, Wakes, Stays, more_woken, woken_in, woken_with, refilled, watched_on, text_if, woken, woken_children}
-use Rattle.value_ranges.specs.Words.{ExprWords}
+use Rattle.value_ranges.proofs.Words.{ExprWords}
 use Rattle.value_ranges.proofs.Values.{CopiesFit}
-use Rattle.value_ranges.proofs.Texts.{AfterFits, TextFits, ThreadsFit, handed_fits}
+use Rattle.value_ranges.proofs.Texts.{TextFits, ThreadsFit, handed_fits, refilled_fits}
 
 abbrev pub WokenFits : Woken → Type 0
 WokenFits (Wakes R u) = TextFits R
@@ -26,10 +26,6 @@ woken_in_fits f (Stays place trap u) g h = tt
 woken_with_fits : (v : Value) (go : ℤ → Woken) → ((n : ℤ) → WokenFits (go n)) → WokenFits (woken_with v go)
 woken_with_fits (Gives n u) go h = more_woken_fits u (go n) (h n)
 woken_with_fits (Raises place trap u) go h = tt
-
-refilled_fits : (a : After) → AfterFits a → AfterFits (refilled a)
-refilled_fits (Go_on list) h = h
-refilled_fits (Again loop) h = h
 
 either_woken : (b : Bool) (r s : Woken) → WokenFits r → WokenFits s → WokenFits (cond b r s)
 either_woken true r s h g = h
@@ -70,20 +66,20 @@ module _ (k : PlainKernel) where
     all_woken : (uses : List ℕ) (copies : List VarCopy) (cs : Threads) → CopiesFit copies → ThreadsFit cs →
         ThreadsFit (woken_children k uses copies cs).children
     all_woken uses copies no_threads c h = tt
-    all_woken uses copies (child t R w own Gone rest) c h = (h.0, h.1, h.2, all_woken uses copies rest c h.3)
+    all_woken uses copies (child t R w own Gone rest) c h = (h.0, h.1, all_woken uses copies rest c h.2)
     all_woken uses copies (child t R w own Running rest) c h =
         let down = handed_down uses copies (uses_of k t) in
         let g = handed_fits uses copies (uses_of k t) c in
-        (text_if_fits R (woken k (uses_of k t) w down R) h.0 (woken_fits (uses_of k t) w down R g h.0), h.1, g, all_woken uses copies rest c h.3)
+        (text_if_fits R (woken k (uses_of k t) w down R) h.0 (woken_fits (uses_of k t) w down R g h.0), (h.1.0, g), all_woken uses copies rest c h.2)
     all_woken uses copies (child t R w own Paused rest) c h =
         let down = handed_down uses copies (uses_of k t) in
         let g = handed_fits uses copies (uses_of k t) c in
-        (text_if_fits R (woken k (uses_of k t) w down R) h.0 (woken_fits (uses_of k t) w down R g h.0), h.1, g, all_woken uses copies rest c h.3)
+        (text_if_fits R (woken k (uses_of k t) w down R) h.0 (woken_fits (uses_of k t) w down R g h.0), (h.1.0, g), all_woken uses copies rest c h.2)
     all_woken uses copies (child t R w own Ended rest) c h =
         let down = handed_down uses copies (uses_of k t) in
         let g = handed_fits uses copies (uses_of k t) c in
-        (text_if_fits R (woken k (uses_of k t) w down R) h.0 (woken_fits (uses_of k t) w down R g h.0), h.1, g, all_woken uses copies rest c h.3)
+        (text_if_fits R (woken k (uses_of k t) w down R) h.0 (woken_fits (uses_of k t) w down R g h.0), (h.1.0, g), all_woken uses copies rest c h.2)
     all_woken uses copies (child t R w own (Trapped place trap) rest) c h =
         let down = handed_down uses copies (uses_of k t) in
         let g = handed_fits uses copies (uses_of k t) c in
-        (text_if_fits R (woken k (uses_of k t) w down R) h.0 (woken_fits (uses_of k t) w down R g h.0), h.1, g, all_woken uses copies rest c h.3)
+        (text_if_fits R (woken k (uses_of k t) w down R) h.0 (woken_fits (uses_of k t) w down R g h.0), (h.1.0, g), all_woken uses copies rest c h.2)

@@ -15,7 +15,7 @@ use Rattle.trace_rows.specs.Report.{end_words, trap_word, trap_words, over_words
 use Rattle.trace_rows.specs.Trace.{Row, TraceEnd}
 use Rattle.trace_rows.specs.declared.fault.RowFault.{RowFault}
 use Rattle.trace_rows.specs.declared.fault.RowFault.TheVariants as fault
-use Rattle.trace_runs.specs.OneRun.{words_after, trace_words, words_from}
+use Rattle.trace_ticks.specs.OneRun.{words_after, trace_words, words_from}
 use Rattle.wave_dump.specs.Wave.{is_ending_byte}
 
 -- an ending that a dump may have: some bytes, from 32 to 126 without `$`

@@ -8,10 +8,10 @@ use Rattle.forec_kernel.specs.Shapes.{PlainKernel}
 use Rattle.forec_kernel.specs.Ticks.{TickState, Tick, tick}
 use Rattle.dump_report.specs.Told.{told_ticks}
 use Rattle.trace_rows.specs.Trace.{Row}
-use Rattle.trace_runs.specs.Formats.{tick_written}
-use Rattle.trace_runs.specs.KernelNames.{output_names}
-use Rattle.trace_runs.specs.OneRun.{told_after, values_from, ticks_written}
-use Rattle.trace_runs.specs.declared.format.Format.TheVariants as format
+use Rattle.trace_ticks.specs.Formats.{tick_written}
+use Rattle.trace_ticks.specs.KernelNames.{output_names}
+use Rattle.trace_ticks.specs.OneRun.{told_after, values_from, ticks_written}
+use Rattle.trace_ticks.specs.declared.format.Format.TheVariants as format
 use Rattle.value_ranges.specs.Laws.{FitReached, after, TickWords, TicksFit}
 use Rattle.value_ranges.specs.Words.{AreWords, KernelWords}
 use Rattle.wave_dump.specs.Wave.{AreValues, tick_text, ticks_text, no_values}

@@ -6,10 +6,10 @@ use Rattle.forec_kernel.specs.Ticks.{Fresh}
 use Rattle.dump_report.specs.Told.{told_lines, told_report, dump_report}
 use Rattle.dump_report.specs.declared.status.DumpStatus.TheVariants as told
 use Rattle.trace_rows.specs.Trace.{trace_of}
-use Rattle.trace_runs.specs.KernelNames.{input_names, output_names, run_format}
-use Rattle.trace_runs.specs.OneRun.{run_values, run_words, FormatsWriteOneRun, FormatsGiveOneStatus}
-use Rattle.trace_runs.specs.Report.{trace_report}
-use Rattle.trace_runs.specs.declared.format.Telling.TheVariants as telling
+use Rattle.trace_ticks.specs.KernelNames.{input_names, output_names, run_format}
+use Rattle.trace_ticks.specs.OneRun.{run_values, run_words, FormatsWriteOneRun, FormatsGiveOneStatus}
+use Rattle.trace_ticks.specs.Report.{trace_report}
+use Rattle.trace_ticks.specs.declared.format.Telling.TheVariants as telling
 use Rattle.value_ranges.specs.Laws.{TicksFit, at_first}
 use Rattle.wave_dump.specs.Wave.{PlainDump, IsDump, head_text, ticks_text, no_values, until_ending, tail_text, wave_text}
 use Rattle.wave_dump.specs.Writing.{none_yet}

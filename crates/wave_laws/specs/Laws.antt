@@ -6,9 +6,9 @@ use Rattle.dump_report.specs.Told.{told_lines, dump_report}
 use Rattle.dump_report.specs.declared.status.DumpStatus.TheVariants as told
 use Rattle.text_verdict.specs.Judging.{Accepts, Judged}
 use Rattle.text_verdict.specs.declared.counts.Counts.{Counts}
-use Rattle.trace_runs.specs.KernelNames.{run_format}
-use Rattle.trace_runs.specs.Report.{Report, trace_report}
-use Rattle.trace_runs.specs.declared.format.Telling.TheVariants as telling
+use Rattle.trace_ticks.specs.KernelNames.{run_format}
+use Rattle.trace_ticks.specs.Report.{Report, trace_report}
+use Rattle.trace_ticks.specs.declared.format.Telling.TheVariants as telling
 use Rattle.wave_dump.specs.Wave.{PlainDump, IsDump, wave_text}
 use Rattle.wave_laws.specs.Runs.{CanDump, run_dump}
 

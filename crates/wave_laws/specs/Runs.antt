@@ -3,8 +3,8 @@ use Rattle.std.specs.Prelude.{◌≤◌, ℕ, List, length}
 use Rattle.std.specs.List.{AllByRecursion}
 use Rattle.forec_base.specs.declared.limits.TheConstants.{MAX_OUTPUTS}
 use Rattle.forec_kernel.specs.Shapes.{PlainKernel}
-use Rattle.trace_runs.specs.KernelNames.{output_names}
-use Rattle.trace_runs.specs.OneRun.{run_values, run_words}
+use Rattle.trace_ticks.specs.KernelNames.{output_names}
+use Rattle.trace_ticks.specs.OneRun.{run_values, run_words}
 use Rattle.value_ranges.specs.Words.{KernelWords}
 use Rattle.wave_dump.specs.Wave.{PlainDump, IsWaveName}
 

@@ -3,7 +3,7 @@ ghost use Rattle.wave_laws.specs.Laws.{AcceptedTextsCanDump, DumpsTellRuns};
 
 use dump_report::dumps_are_told;
 use text_verdict::{each_accepted_text_has_names, each_accepted_text_has_words};
-use trace_runs::each_format_writes_one_run;
+use trace_ticks::each_format_writes_one_run;
 use value_ranges::values_fit;
 use wave_dump::written_in_parts;
 

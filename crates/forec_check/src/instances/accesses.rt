@@ -5,15 +5,15 @@ ghost use Rattle.forec_tree.specs.Plain as plain;
 ghost use Rattle.forec_tree.specs.Pauses.{find_function};
 ghost use Rattle.forec_check.specs.AccessScan.{scan_start, as_access, accessing_instances, instances_of};
 ghost use Rattle.loop_check.specs.Views.{indexed_text};
-ghost use Rattle.forec_check.specs.Walk.{item_effects, effects_lists};
+ghost use Rattle.program_walk.specs.Walk.{item_effects, effects_lists};
 ghost use Rattle.forec_check.specs.AccessCounts.{capped_access, called_access, access_of, scan_effects, CountsEffect, capped_step, Orders};
 ghost use Rattle.forec_check.specs.AccessCounts as counts;
 
 use crate::instances::access_count::{AccessCount, AccessTally};
 use crate::instances::propagate::effects_of;
-use crate::walk::effects::Effect;
 use forec_base::OutOfMemory;
 use loop_check::{Index, put, value_at};
+use program_walk::Effect;
 use std::alloc::Global;
 
 fn no_access_count() -> AccessCount

@@ -1,6 +1,6 @@
 //! The bodies of a program, as thread instances are counted.
 
-use crate::walk::effects::Effect;
+use program_walk::Effect;
 
 /// The effects of each item, the functions in order, each after those that it calls or starts, and the
 /// name of the function that the program starts with.

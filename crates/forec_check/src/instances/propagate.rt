@@ -3,15 +3,15 @@
 ghost use Rattle.std.specs.Prelude.{◌≡◌, ◌≢◌, false, true, map, IfOk};
 ghost use Rattle.forec_tree.specs.Pauses.{find_function};
 ghost use Rattle.loop_check.specs.Views.{indexed_text};
-ghost use Rattle.forec_check.specs.Walk.{item_effects, effects_lists};
+ghost use Rattle.program_walk.specs.Walk.{item_effects, effects_lists};
 ghost use Rattle.forec_check.specs.AccessCounts.{effects_in};
 ghost use Rattle.forec_check.specs.CallSites as plain;
 ghost use Rattle.forec_check.specs.CallSites.{site_maps, outermost, SameTables, HoldsEffects, RestsAround, SettlesCalled, AllSettled};
 
 use crate::instances::call_sites::{CallSite, CallSites, at, join};
-use crate::walk::effects::Effect;
 use forec_base::OutOfMemory;
 use loop_check::Index;
+use program_walk::Effect;
 use std::alloc::Global;
 
 /// By the numbers of their names: where each function is called or started, the instances in whose

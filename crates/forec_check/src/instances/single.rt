@@ -2,16 +2,16 @@
 
 ghost use Rattle.std.specs.Prelude.{◌≡◌, map, IfOk};
 ghost use Rattle.loop_check.specs.Views.{indexed_text};
-ghost use Rattle.forec_check.specs.Walk.{item_effects, effects_lists};
+ghost use Rattle.program_walk.specs.Walk.{item_effects, effects_lists};
 ghost use Rattle.forec_check.specs.AccessCounts.{Orders};
 ghost use Rattle.forec_check.specs.SingleAccess as plain;
 ghost use Rattle.forec_check.specs.SingleAccess.{TellsSingle};
 
 use crate::instances::call_sites::{CallSites, at};
 use crate::instances::propagate::{SiteTables, propagate};
-use crate::walk::effects::Effect;
 use forec_base::OutOfMemory;
 use loop_check::Index;
+use program_walk::Effect;
 use std::alloc::Global;
 
 /// The instances that access each global, as far as they are one alone, and whether that is certain.

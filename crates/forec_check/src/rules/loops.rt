@@ -7,11 +7,11 @@ ghost use Rattle.forec_tree.specs.Rules as rules;
 ghost use Rattle.forec_tree.specs.Rules.{fault_if};
 ghost use Rattle.forec_tree.specs.Turns.{inferred};
 ghost use Rattle.forec_tree.specs.Pauses.{certain, certain_function, certain_perhaps, some_certain, branch_certain};
-ghost use Rattle.forec_check.specs.Least.{least_from};
+ghost use Rattle.fault_order.specs.Least.{least_from};
 ghost use Rattle.loop_check.specs.Judges.{judge_text};
 ghost use Rattle.forec_check.specs.Loops.{loops_in, loops_in_perhaps, loops_in_all, loops_in_branches, all_loops, loops_faults};
 
-use crate::rules::least::keep_fault;
+use fault_order::keep_fault;
 use forec_tree::{Branch, Fault, Item, Number, Stmt, StmtKind, rule};
 use loop_check::{Pauses, always, at_least_one, is_nonzero};
 

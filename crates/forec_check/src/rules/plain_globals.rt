@@ -4,19 +4,19 @@ ghost use Rattle.std.specs.Prelude.{◌≡◌, ◌∷◌, map, Some, IfOk, OnOk}
 ghost use Rattle.forec_tree.specs.Plain as plain;
 ghost use Rattle.forec_tree.specs.Rules as rules;
 ghost use Rattle.forec_tree.specs.Faults.{start_name};
-ghost use Rattle.forec_check.specs.Least.{least_from};
-ghost use Rattle.forec_check.specs.Views.{program_text, program_names};
-ghost use Rattle.forec_check.specs.Walk.{item_effects, effects_lists};
+ghost use Rattle.fault_order.specs.Least.{least_from};
+ghost use Rattle.program_walk.specs.Views.{program_text, program_names};
+ghost use Rattle.program_walk.specs.Walk.{item_effects, effects_lists};
 ghost use Rattle.forec_check.specs.AccessCounts.{access_fault, access_faults, Orders};
 ghost use Rattle.forec_check.specs.SingleAccess.{TellsSingle};
 
 use crate::instances::accesses::two_access;
 use crate::instances::bodies::Bodies;
 use crate::instances::single::{SingleAccess, single_access};
-use crate::rules::least::{is_less, keep_fault};
-use crate::symbols::Symbols;
+use fault_order::{is_less, keep_fault};
 use forec_base::OutOfMemory;
 use forec_tree::{Fault, GlobalKind, Item, rule};
+use program_walk::Symbols;
 use std::alloc::Global;
 
 fn is_plain(kind: GlobalKind) -> bool

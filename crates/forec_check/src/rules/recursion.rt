@@ -5,16 +5,15 @@ ghost use Rattle.forec_tree.specs.Plain as plain;
 ghost use Rattle.forec_tree.specs.Faults.{Leads, Member, IsEarly, text_faults};
 ghost use Rattle.loop_check.specs.Views.{indexed_text};
 ghost use Rattle.loop_check.specs.Graph.{callees};
-ghost use Rattle.forec_check.specs.Views.{program_text, program_names};
-ghost use Rattle.forec_check.specs.Walk.{item_effects, effects_lists};
+ghost use Rattle.program_walk.specs.Views.{program_text, program_names};
+ghost use Rattle.program_walk.specs.Walk.{item_effects, effects_lists};
 ghost use Rattle.forec_check.specs.Early.{effect_calls, IsLeastOrNone, EarlyTo, KnowsCalls};
 
-use crate::rules::least::{is_less, keep_fault};
-use crate::symbols::Symbols;
-use crate::walk::effects::Effect;
+use fault_order::{is_less, keep_fault};
 use forec_base::{Labels, OutOfMemory};
 use forec_tree::{Fault, Item, rule};
 use loop_check::{Calls, Index, acyclic, add_function, is_waiting, reaches_itself};
+use program_walk::{Effect, Symbols};
 use std::alloc::Global;
 
 fn called_functions(alloc: Global, effects: &[Effect]) -> Result<Vec<u32>, OutOfMemory>

@@ -1,16 +1,34 @@
-use Rattle.std.proofs.Common.{◌≡◌, ◌+◌, ◌<◌, ◌^◌, [], refl, sym, ap, ◌∙◌, subst, arith}
+use Rattle.std.proofs.Common.{◌≡◌, true, ◌+◌, ◌<◌, ◌^◌, [], refl, sym, ap, ◌∙◌, subst, arith}
 use Rattle.std.proofs.Math.Facts.{Fits-of_lt}
-use Rattle.std.specs.Prelude.{Ok}
+use Rattle.std.specs.Prelude.{Ok, ◌↔◌}
 use mathlib.Core.Bool.{true≢false}
-use Rattle.thread_code.specs.Plain.{plain_code}
+use Rattle.thread_code.specs.Plain.{PlainCode, plain_code}
 use Rattle.forec_kernel.specs.declared.shape.Shape.{Shape}
 use Rattle.forec_kernel.specs.Shapes.{plain_shape}
+use Rattle.exchange_meaning.specs.Logged.{ExchangeLog}
+use Rattle.exchange_meaning.specs.Telling.{IsAll}
 use Rattle.log_text.specs.ReadLogs.{HasPairs}
 use Rattle.exchange_replay.specs.Tracks.{IsBeforePairs}
 use Rattle.exchange_replay.specs.Replaying.{DoesPair}
-use Rattle.exchange_replay.proofs.ReplayLemmas.{at_first, reads, all_read, job_fails, so_told, so_passed, replays_same, pairs_left, next_stage, fewer_left, few_jobs, one_left}
-use Rattle.exchange_replay.proofs.replay.replay_thread.Goals.{then-is_used, else-is_used}
+use Rattle.exchange_replay.proofs.ReplayLemmas.{Stage, at_first, reads, all_read, job_fails, so_told, so_passed, replays_same, pairs_left, next_stage, fewer_left, few_jobs, one_left}
+use Rattle.exchange_replay.proofs.replay.replay_thread.Goals.{After-is_used, then-is_used, else-is_used}
 use Rattle.exchange_replay.proofs.replay.replay_thread.Goals as goal
+
+-- all jobs of the thread were read
+module _ (c : After-is_used) (pairs : ExchangeLog) (has : HasPairs (plain_code c.args.code.now).shape c.args.log.now pairs) where
+  abbrev code : PlainCode
+  code = plain_code c.args.code.now
+
+  abbrev stage : Stage code pairs c.args.log.now c.args.t c.loop-walk.walk c.loop-walk.own c.loop-walk.job
+  stage = c.loop-walk.invariant pairs has
+
+  all : pairs c.args.t ≡ stage.passed
+  all =
+      all_read code c.shape.ensures.valid c.args.log.now pairs c.args.t c.loop-walk.walk c.loop-walk.own c.reads_job.new.self stage.passed stage.is c.reads_job.result c.loop-walk-test.false
+      (c.reads_job.ensures.next code.shape c.args.t stage.is.has.left stage.is.has.before)
+
+  says : (c.is_used.result ≡ true) ↔ IsAll code.shape pairs c.args.t (so_told code c.shape.ensures.valid c.args.log.now pairs c.args.t c.loop-walk.walk c.loop-walk.own stage.passed all stage.is.rests)
+  says = c.is_used.ensures code c.args.log.now pairs c.args.t _ (so_passed code c.shape.ensures.valid c.args.log.now pairs c.args.t c.loop-walk.walk c.loop-walk.own stage.passed all stage.is.rests)
 
 pub loop-walk-init : goal.loop-walk-init
 loop-walk-init c pairs has =
@@ -72,26 +90,20 @@ loop-walk-preserved c pairs has =
 
 pub returns-clause-same : goal.returns-clause-same
 returns-clause-same c pairs has e =
-    let k = plain_code c.args.code.now in
-    let v = c.shape.ensures.valid in
-    let l = c.args.log.now in
-    let s = c.loop-walk.invariant pairs has in
-    let is = all_read k v l pairs c.args.t c.loop-walk.walk c.loop-walk.own c.reads_job.new.self s.passed s.is c.reads_job.result c.loop-walk-test.false (c.reads_job.ensures.next k.shape c.args.t s.is.has.left s.is.has.before) in
-    let says = c.is_used.ensures k l pairs c.args.t (so_told k v l pairs c.args.t c.loop-walk.walk c.loop-walk.own s.passed is s.is.rests) (so_passed k v l pairs c.args.t c.loop-walk.walk c.loop-walk.own s.passed is s.is.rests) in
+    let at = (goal.at.returns-clause-same c).After-is_used in
+    let s = stage at pairs has in
     elim c.if-is_used.branch [
-      | then-is_used w ↦ replays_same k v l pairs c.args.t c.loop-walk.walk c.loop-walk.own s.passed is s.is.rests (says.0 w.if-is_used.true)
+      | then-is_used w ↦ replays_same (code at pairs has) c.shape.ensures.valid c.args.log.now pairs c.args.t c.loop-walk.walk c.loop-walk.own s.passed (all at pairs has) s.is.rests ((says at pairs has).0 w.if-is_used.true)
       | else-is_used w ↦ (let f = ap Ok (sym w.result-is) ∙ e in cc)
     ]
 
 pub returns-clause-differs : goal.returns-clause-differs
 returns-clause-differs c pairs job has e =
-    let k = plain_code c.args.code.now in
-    let v = c.shape.ensures.valid in
-    let l = c.args.log.now in
-    let s = c.loop-walk.invariant pairs has in
-    let is = all_read k v l pairs c.args.t c.loop-walk.walk c.loop-walk.own c.reads_job.new.self s.passed s.is c.reads_job.result c.loop-walk-test.false (c.reads_job.ensures.next k.shape c.args.t s.is.has.left s.is.has.before) in
-    let says = c.is_used.ensures k l pairs c.args.t (so_told k v l pairs c.args.t c.loop-walk.walk c.loop-walk.own s.passed is s.is.rests) (so_passed k v l pairs c.args.t c.loop-walk.walk c.loop-walk.own s.passed is s.is.rests) in
+    let at = (goal.at.returns-clause-differs c).After-is_used in
+    let s = stage at pairs has in
     elim c.if-is_used.branch [
       | then-is_used w ↦ (let f = ap Ok (sym w.result-is) ∙ e in cc)
-      | else-is_used w ↦ pairs_left k v l pairs c.args.t c.loop-walk.walk c.loop-walk.own s.passed is s.is.rests (λ all. true≢false (sym (says.1 all) ∙ w.if-is_used.false)) job (let f = ap Ok (sym w.result-is) ∙ e in let j : job ≡ c.loop-walk.job = cc in j ∙ s.number)
+      | else-is_used w ↦
+          pairs_left (code at pairs has) c.shape.ensures.valid c.args.log.now pairs c.args.t c.loop-walk.walk c.loop-walk.own s.passed (all at pairs has) s.is.rests
+          (λ used. true≢false (sym ((says at pairs has).1 used) ∙ w.if-is_used.false)) job (let f = ap Ok (sym w.result-is) ∙ e in let j : job ≡ c.loop-walk.job = cc in j ∙ s.number)
     ]

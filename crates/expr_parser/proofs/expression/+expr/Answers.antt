@@ -22,7 +22,7 @@ pub values-loop-turn-preserved : goal.values-loop-turn-preserved
 unfolding separated_from
 values-loop-turn-preserved t c =
     let e = next_turn (λ n. separated_from (value max_level (read_expression max_level c.args.depth)) n (map term c.loop-turn.found) c.loop-turn.tokens) _ c.loop-turn._turn c.loop-turn-test.true c.loop-turn.invariant in
-    first_of (search rules, grind (arith, map-append, common_steps))
+    grind (arith, map-append, common_steps)
 
 pub values-returns-in_err-take-clause-read : goal.values-returns-in_err-take-clause-read
 unfolding separated_from

@@ -20,11 +20,14 @@ decreases-operation l = 8 * l.depth + 1
 abbrev pub decreases-named : goal.decreases-named
 decreases-named l = 8 * l.depth + 5
 
+abbrev pub decreases-enclosed : goal.decreases-enclosed
+decreases-enclosed l = 8 * l.depth + 1
+
 abbrev pub decreases-bracketed : goal.decreases-bracketed
-decreases-bracketed l = 8 * l.depth + 1
+decreases-bracketed l = 8 * l.depth + 2
 
 abbrev pub decreases-indexed : goal.decreases-indexed
-decreases-indexed l = 8 * l.depth + 1
+decreases-indexed l = 8 * l.depth + 2
 
 abbrev pub decreases-passed : goal.decreases-passed
 decreases-passed l = 8 * l.depth + 4

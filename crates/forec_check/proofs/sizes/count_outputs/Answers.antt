@@ -1,6 +1,6 @@
 use Rattle.std.proofs.Common.{sym, ap, arith}
 use Rattle.forec_check.specs.Checked as checked
-use Rattle.forec_check.proofs.ItemRules.{items_at}
+use Rattle.program_walk.proofs.ItemRules.{items_at}
 use Rattle.forec_check.proofs.sizes.count_outputs.Goals as goal
 
 pub loop-item-preserved : goal.loop-item-preserved

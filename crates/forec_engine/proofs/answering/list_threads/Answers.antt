@@ -3,7 +3,7 @@ use Rattle.forec_kernel.specs.Shapes.{plain_kernel}
 use Rattle.command_words.specs.Requests.{plain_placing}
 use Rattle.forec_engine.specs.Commands.{Of_placed, ThreadsReport, threads_listed}
 use Rattle.forec_engine.specs.Placing.{IsMisplaced}
-use Rattle.trace_runs.proofs.Printing.{prints_as}
+use Rattle.trace_ticks.proofs.Printing.{prints_as}
 use Rattle.forec_engine.proofs.Answered.{threads_misplaced}
 use Rattle.forec_engine.proofs.answering.list_threads.Goals as goal
 

@@ -1,7 +1,7 @@
 use Rattle.std.proofs.Common.{◌≡◌}
 use Rattle.forec_engine.specs.Budgets.{boundless}
-use Rattle.trace_runs.specs.declared.status.Status.TheVariants as status
-use Rattle.trace_runs.proofs.Printing.{prints_as}
+use Rattle.trace_ticks.specs.declared.status.Status.TheVariants as status
+use Rattle.trace_ticks.proofs.Printing.{prints_as}
 use Rattle.forec_engine.proofs.answering.say_boundless.Goals as goal
 
 pub returns : goal.returns

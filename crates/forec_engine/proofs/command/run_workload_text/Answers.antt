@@ -7,7 +7,7 @@ use Rattle.forec_engine.specs.Ends.{AcceptedSo}
 use Rattle.forec_engine.specs.Placing.{IsRefusedRun}
 use Rattle.text_verdict.specs.Judging.{Accepts, Refuses, Judged, too_long, most_text_bytes}
 use Rattle.text_verdict.specs.declared.refusal.Refusal.TheVariants as refusal
-use Rattle.trace_runs.proofs.Printing.{prints_as}
+use Rattle.trace_ticks.proofs.Printing.{prints_as}
 use Rattle.forec_engine.proofs.command.run_workload_text.Goals as goal
 
 pub returns-in-Ok-judge : goal.returns-in-Ok-judge

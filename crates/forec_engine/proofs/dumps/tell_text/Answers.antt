@@ -1,6 +1,6 @@
 use Rattle.std.proofs.Common.{sym, subst}
-use Rattle.trace_runs.specs.Prints.{PrintsReport}
-use Rattle.trace_runs.specs.declared.status.Status.{Status}
+use Rattle.trace_ticks.specs.Prints.{PrintsReport}
+use Rattle.trace_ticks.specs.declared.status.Status.{Status}
 use Rattle.forec_engine.specs.Dumps.{dump_printed}
 use Rattle.forec_engine.proofs.DumpLemmas.{said}
 use Rattle.forec_engine.proofs.dumps.tell_text.Goals as goal

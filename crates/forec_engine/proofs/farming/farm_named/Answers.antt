@@ -1,7 +1,7 @@
 use Rattle.std.proofs.Common.{◌≡◌, map, sym, subst}
 use Rattle.text_verdict.specs.Judging.{too_long}
 use Rattle.text_verdict.specs.declared.refusal.Refusal.TheVariants as refusal
-use Rattle.trace_runs.proofs.Told.{some_map}
+use Rattle.trace_ticks.proofs.Told.{some_map}
 use Rattle.forec_engine.proofs.FarmPieces.{fell_later}
 use Rattle.forec_engine.proofs.FarmPrinting.{named_farmed, named_too_long}
 use Rattle.forec_engine.proofs.farming.farm_named.Goals as goal

@@ -1,5 +1,5 @@
 use Rattle.std.proofs.Common.{◌≡◌, subst, sym, refl}
-use Rattle.trace_runs.proofs.Told.{some_map}
+use Rattle.trace_ticks.proofs.Told.{some_map}
 use Rattle.forec_engine.proofs.FarmPieces.{fell_later}
 use Rattle.forec_engine.proofs.ReplayAnswered.{replay_named, replay_too_long}
 use Rattle.forec_engine.proofs.replaying.replay_named.Goals as goal

@@ -12,7 +12,7 @@ pub loop-turn-preserved : goal.loop-turn-preserved
 unfolding separated_from
 loop-turn-preserved c =
     let e = next_turn (λ n. separated_from (declared_item max_level c.args.declarator) n (map plain_item c.loop-turn.found) c.loop-turn.tokens) _ c.loop-turn._turn c.loop-turn-test.true c.loop-turn.invariant in
-    first_of (search rules, grind (arith, map-append, common_steps))
+    grind (arith, map-append, common_steps)
 
 pub returns-in_err-take : goal.returns-in_err-take
 unfolding separated_from

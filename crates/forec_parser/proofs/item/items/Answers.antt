@@ -1,4 +1,4 @@
-use Rattle.std.proofs.Common.{rules, arith, map}
+use Rattle.std.proofs.Common.{arith, map}
 use Rattle.std.proofs.lemmas.List.{map-append}
 use Rattle.std.proofs.lemmas.Grind.{common_steps}
 use Rattle.forec_tree.specs.Plain.{plain_item}
@@ -11,4 +11,4 @@ pub loop-turn-preserved : goal.loop-turn-preserved
 unfolding items_from
 loop-turn-preserved c =
     let e = next_turn (λ n. items_from max_level n (map plain_item c.loop-turn.found) c.loop-turn.tokens) _ c.loop-turn._turn c.loop-turn-test.true c.loop-turn.invariant in
-    first_of (search rules, grind (arith, map-append, common_steps))
+    grind (arith, map-append, common_steps)

@@ -3,7 +3,7 @@ use Rattle.loop_check.specs.Views.{indexed_text}
 use Rattle.kernel_lower.specs.declared.judge.Amounts.{Amounts}
 use Rattle.text_kernel.specs.Items.{globals_of, array_items, array_length}
 use Rattle.text_kernel.specs.Kernels.{kernel_of}
-use Rattle.kernel_lower.specs.Reach.{value_at}
+use Rattle.kernel_drafts.specs.Reach.{value_at}
 use Rattle.text_chains.specs.Peaks.{most_words}
 use Rattle.kernel_lower.specs.Refusals.{amount_in, HasLowerCause}
 use Rattle.kernel_lower.proofs.Finishing.{tables_amount}

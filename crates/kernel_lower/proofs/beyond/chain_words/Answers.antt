@@ -2,11 +2,11 @@ use Rattle.std.proofs.Common.{◌≡◌, ◌∙◌, ap, map}
 use Rattle.forec_kernel.specs.Plain.{stmt}
 use Rattle.forec_kernel.specs.Shapes.{PlainKernel}
 use Rattle.loop_check.specs.Views.{indexed_text}
-use Rattle.kernel_lower.specs.declared.measure.Draft.{Draft}
+use Rattle.kernel_drafts.specs.declared.measure.Draft.{Draft}
 use Rattle.text_kernel.specs.Items.{functions_of}
 use Rattle.text_kernel.specs.Kernels.{kernel_of}
-use Rattle.kernel_lower.specs.Measures.{plain_draft}
-use Rattle.kernel_lower.proofs.Finishing.{draft_shapes, draft_bodies}
+use Rattle.kernel_drafts.specs.Measures.{plain_draft}
+use Rattle.kernel_drafts.proofs.Drafting.{draft_shapes, draft_bodies}
 use Rattle.kernel_lower.proofs.Reckoning.{words_too, ranked_too, low_too}
 use Rattle.kernel_lower.proofs.beyond.chain_words.Goals as goal
 use Rattle.kernel_lower.proofs.beyond.chain_words.Goals.{After-new-4}

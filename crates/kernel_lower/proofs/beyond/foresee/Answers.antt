@@ -6,7 +6,7 @@ use Rattle.text_sizes.specs.declared.span.Span.{Span}
 use Rattle.text_sizes.specs.Spans.{span_at}
 use Rattle.loop_check.specs.Views.{indexed_text}
 use Rattle.kernel_lower.specs.Refusals.{HasLowerCause}
-use Rattle.kernel_lower.proofs.Finishing.{as_many}
+use Rattle.kernel_drafts.proofs.Drafting.{as_many}
 use Rattle.kernel_lower.proofs.Reckoning.{at_most, words_told, levels_told, words_cause}
 use Rattle.kernel_lower.proofs.Tallying.{err_passed}
 use Rattle.kernel_lower.proofs.beyond.foresee.Goals as goal

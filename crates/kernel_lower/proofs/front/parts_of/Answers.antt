@@ -17,9 +17,9 @@ use Rattle.text_kernel.specs.Limits.{amount}
 use Rattle.kernel_lower.specs.Refusals.{amount_in, HasLowerCause}
 use Rattle.forec_tree.specs.Variables.{width}
 use Rattle.text_kernel.specs.Items.{globals_of, variable_items, array_items, array_length}
-use Rattle.kernel_lower.specs.Measures.{CallsLow, IsDraft, plain_draft}
+use Rattle.kernel_drafts.specs.Measures.{CallsLow, IsDraft, plain_draft}
 use Rattle.text_kernel.proofs.Called.{ranked}
-use Rattle.kernel_lower.proofs.InRange.{calls_low}
+use Rattle.kernel_drafts.proofs.InRange.{calls_low}
 use Rattle.text_kernel.proofs.Faultless.{clean_of}
 use Rattle.kernel_lower.proofs.Finishing.{Alike, draft_alike, ranked_same, low_same, words_amounts, depth_amounts, globals_amount, tables_amount, all_amounts, first_causes, within_limits}
 use Rattle.kernel_lower.proofs.Reckoning.{variables_amount}

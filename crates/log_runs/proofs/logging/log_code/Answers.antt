@@ -4,10 +4,10 @@ use Rattle.forec_kernel.specs.Shapes.{PlainShape, plain_shape, plain_kernel}
 use Rattle.thread_code.specs.Plain.{plain_code}
 use Rattle.core_host.specs.Hosted.{code_of}
 use Rattle.core_host.specs.Runs.{HostHasRun}
-use Rattle.trace_runs.specs.Formats.{format_for}
-use Rattle.trace_runs.specs.KernelNames.{outputs_of}
-use Rattle.trace_runs.specs.declared.format.Telling.TheVariants as telling
-use Rattle.trace_runs.proofs.Printing.{own_else}
+use Rattle.trace_ticks.specs.Formats.{format_for}
+use Rattle.trace_ticks.specs.KernelNames.{outputs_of}
+use Rattle.trace_ticks.specs.declared.format.Telling.TheVariants as telling
+use Rattle.trace_ticks.proofs.Printing.{own_else}
 use Rattle.log_runs.proofs.RunLemmas.{log_unrun, code_starts, log_unread, log_unkept, log_told}
 use Rattle.log_runs.proofs.logging.log_code.Goals as goal
 

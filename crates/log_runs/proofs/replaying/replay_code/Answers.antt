@@ -1,8 +1,8 @@
 use Rattle.std.proofs.Common.{◌≡◌, ℕ, List, Ok, Some, subst}
 use Rattle.forec_base.specs.declared.limits.TheConstants.{MAX_ROWS}
 use Rattle.thread_code.specs.Plain.{plain_code}
-use Rattle.trace_runs.specs.Prints.{PrintsReport}
-use Rattle.trace_runs.specs.declared.status.Status.TheVariants as status
+use Rattle.trace_ticks.specs.Prints.{PrintsReport}
+use Rattle.trace_ticks.specs.declared.status.Status.TheVariants as status
 use Rattle.log_runs.specs.ReplayRuns.{differing}
 use Rattle.log_runs.proofs.ReplayLemmas.{thread_said}
 use Rattle.log_runs.proofs.replaying.replay_code.Goals as goal

@@ -6,13 +6,13 @@ use Rattle.thread_code.specs.Plain.{plain_code}
 use Rattle.exchange_meaning.specs.Logged.{ExchangeLog}
 use Rattle.exchange_replay.specs.Rooted.{HasReplayed}
 use Rattle.trace_rows.specs.SourceReads.{ReadsBytes}
-use Rattle.trace_runs.specs.KernelNames.{input_names, inputs_of}
-use Rattle.trace_runs.proofs.Heading.{Started, started, no_header_there, head_fault, head_ran, head_failed, head_wanted}
-use Rattle.trace_runs.proofs.TickLines.{inputs_each}
+use Rattle.trace_ticks.specs.KernelNames.{input_names, inputs_of}
+use Rattle.trace_ticks.proofs.Heading.{Started, started, no_header_there, head_fault, head_ran, head_failed, head_wanted}
+use Rattle.trace_ticks.proofs.TickLines.{inputs_each}
 use Rattle.log_runs.specs.RootWalks.{IsHeldTo, MayRead, RootRuns, WalkedTo}
 use Rattle.log_runs.proofs.HeadRuns.{head_both, head_unread, head_given, reads_none, reads_all}
 use Rattle.log_runs.proofs.RowWalks.{some_all}
-use Rattle.trace_runs.proofs.Running.{fell_since}
+use Rattle.trace_ticks.proofs.Running.{fell_since}
 use Rattle.log_runs.proofs.TraceWalks.{ends_as, none_walked}
 use Rattle.log_runs.proofs.replaying.replay_root.Given.{Over}
 use Rattle.log_runs.proofs.replaying.replay_root.Goals.{After-replay_rows, After-start}

@@ -9,11 +9,11 @@ use Rattle.exchange_replay.specs.declared.replayer.Step.TheVariants as step
 use Rattle.tick_jobs.specs.Outcomes.{HasOutputs}
 use Rattle.trace_rows.specs.SourceReads.{NextTook, ReadsBytes}
 use Rattle.trace_rows.specs.Trace.{Row}
-use Rattle.trace_runs.specs.Formats.{names_in}
-use Rattle.trace_runs.proofs.Asking.{Going, going_start, going_sent, going_reads, going_more}
-use Rattle.trace_runs.proofs.NextRows.{Gave, gave_row, stops_there}
-use Rattle.trace_runs.proofs.Running.{OnceMore, Run, Stands_at, at_end, at_fault, at_stop, failed, fell_since, row_within, stands_more, stops, turn_of, waited, waits_so}
-use Rattle.trace_runs.proofs.TickLines.{names_after}
+use Rattle.trace_ticks.specs.Formats.{names_in}
+use Rattle.trace_ticks.proofs.Asking.{Going, going_start, going_sent, going_reads, going_more}
+use Rattle.trace_ticks.proofs.NextRows.{Gave, gave_row, stops_there}
+use Rattle.trace_ticks.proofs.Running.{OnceMore, Run, Stands_at, at_end, at_fault, at_stop, failed, fell_since, row_within, stands_more, stops, turn_of, waited, waits_so}
+use Rattle.trace_ticks.proofs.TickLines.{names_after}
 use Rattle.log_runs.specs.RootWalks.{IsHeldTo, MayReadFrom, RootRuns}
 use Rattle.log_runs.proofs.RootTicks.{once_replayed}
 use Rattle.log_runs.proofs.RowWalks.{differs_at, going_failed, has_walked, own_after, some_all, ticks_before, was_cut}

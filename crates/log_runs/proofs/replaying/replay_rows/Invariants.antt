@@ -6,9 +6,9 @@ use Rattle.thread_code.specs.Plain.{plain_code}
 use Rattle.exchange_meaning.specs.Logged.{ExchangeLog}
 use Rattle.exchange_replay.specs.Rooted.{HasReplayed}
 use Rattle.log_text.specs.ReadLogs.{HasPairs}
-use Rattle.trace_runs.specs.Formats.{names_in}
-use Rattle.trace_runs.proofs.Asking.{Going}
-use Rattle.trace_runs.proofs.Running.{Stands_at}
+use Rattle.trace_ticks.specs.Formats.{names_in}
+use Rattle.trace_ticks.proofs.Asking.{Going}
+use Rattle.trace_ticks.proofs.Running.{Stands_at}
 use Rattle.log_runs.specs.RootWalks.{IsHeldTo, RootRuns}
 use Rattle.log_runs.proofs.replaying.replay_rows.Given as goal
 

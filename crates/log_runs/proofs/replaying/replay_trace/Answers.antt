@@ -7,9 +7,9 @@ use Rattle.thread_code.specs.Plain.{PlainCode, plain_code}
 use Rattle.exchange_replay.specs.Rooted.{HasReplayed}
 use Rattle.log_text.specs.Fronts.{IsLogOf}
 use Rattle.log_text.specs.ReadLogs.{IsReadFrom}
-use Rattle.trace_runs.specs.Formats.{format_for}
-use Rattle.trace_runs.specs.KernelNames.{outputs_of, run_format}
-use Rattle.trace_runs.specs.declared.format.Telling.TheVariants as telling
+use Rattle.trace_ticks.specs.Formats.{format_for}
+use Rattle.trace_ticks.specs.KernelNames.{outputs_of, run_format}
+use Rattle.trace_ticks.specs.declared.format.Telling.TheVariants as telling
 use Rattle.log_runs.specs.RootWalks.{IsHeldTo}
 use Rattle.log_runs.specs.declared.replaying.Walked.{Walked}
 use Rattle.log_runs.specs.declared.replaying.Walked.TheVariants as walked

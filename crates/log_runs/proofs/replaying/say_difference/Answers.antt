@@ -1,5 +1,5 @@
 use Rattle.std.proofs.Common.{◌++◌, ℕ, List, ap, ◌∙◌}
-use Rattle.trace_runs.specs.declared.status.Status.TheVariants as status
+use Rattle.trace_ticks.specs.declared.status.Status.TheVariants as status
 use Rattle.log_runs.specs.ReplayRuns.{difference_line}
 use Rattle.log_runs.proofs.SayingLemmas.{said_front, said_behind}
 use Rattle.log_runs.proofs.replaying.say_difference.Goals as goal

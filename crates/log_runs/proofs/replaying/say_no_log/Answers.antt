@@ -1,6 +1,6 @@
 use Rattle.std.proofs.Common.{◌≡◌, ◌++◌, ℕ, List, codes, decimal, ap, subst, ◌∙◌}
-use Rattle.trace_runs.specs.Prints.{PrintsReport}
-use Rattle.trace_runs.specs.declared.status.Status.TheVariants as status
+use Rattle.trace_ticks.specs.Prints.{PrintsReport}
+use Rattle.trace_ticks.specs.declared.status.Status.TheVariants as status
 use Rattle.log_runs.specs.ReplayRuns.{no_log}
 use Rattle.log_runs.proofs.replaying.say_no_log.Goals as goal
 

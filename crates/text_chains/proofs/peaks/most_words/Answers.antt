@@ -1,6 +1,6 @@
 use Rattle.std.proofs.Common.{ℕ, false, ◌∙◌, max, sym, ap, subst}
-use Rattle.loop_check.specs.Graph.{callees, IsOrder}
 use Rattle.loop_check.specs.Views.{indexed_text}
+use Rattle.loop_check.proofs.Ordered.{order_lent}
 use Rattle.text_kernel.specs.Bindings.{number_among, is_int_function}
 use Rattle.text_kernel.specs.Items.{globals_of}
 use Rattle.text_kernel.specs.Kernels.{main_id}
@@ -15,22 +15,12 @@ use Rattle.text_chains.proofs.peaks.most_words.Goals as goal
 pub peak-requires : goal.peak-requires
 peak-requires c =
     let text = indexed_text c.args.globals.now.index in
-    let functions = c.in_ok-calls.calls.functions.items in
-    let lists = c.in_ok-calls.calls.lists.items in
-    let order = c.in_ok-order.order.items in
-    let ordered : IsOrder functions (callees lists) order =
-    subst (λ l. IsOrder functions (callees l) order) c.deref-2.ensures.value (subst (λ f. IsOrder f (callees c.deref-2.result.now) order) c.deref.ensures.value c.in_ok-order.ensures) in
-    subst (λ o. SettlesTallies text o) (sym c.deref-3.ensures.value) (λ i array value worth. tallies_settle i array value worth text functions order (callees lists) c.in_ok-calls.ensures ordered c.requires.free)
+    subst (λ o. SettlesTallies text o) (sym c.deref-3.ensures.value) (λ i array value worth. tallies_settle i array value worth text _ _ _ c.in_ok-calls.ensures (order_lent c.deref.ensures.value c.deref-2.ensures.value c.in_ok-order.ensures) c.requires.free)
 
 pub peaks_with-requires : goal.peaks_with-requires
 peaks_with-requires c =
     let text = indexed_text c.args.globals.now.index in
-    let functions = c.in_ok-calls.calls.functions.items in
-    let lists = c.in_ok-calls.calls.lists.items in
-    let order = c.in_ok-order.order.items in
-    let ordered : IsOrder functions (callees lists) order =
-    subst (λ l. IsOrder functions (callees l) order) c.deref-2.ensures.value (subst (λ f. IsOrder f (callees c.deref-2.result.now) order) c.deref.ensures.value c.in_ok-order.ensures) in
-    subst (λ o. SettlesTallies text o) (sym c.deref-4.ensures.value) (λ i array value worth. tallies_settle i array value worth text functions order (callees lists) c.in_ok-calls.ensures ordered c.requires.free)
+    subst (λ o. SettlesTallies text o) (sym c.deref-4.ensures.value) (λ i array value worth. tallies_settle i array value worth text _ _ _ c.in_ok-calls.ensures (order_lent c.deref.ensures.value c.deref-2.ensures.value c.in_ok-order.ensures) c.requires.free)
 
 pub returns : goal.returns
 returns c =

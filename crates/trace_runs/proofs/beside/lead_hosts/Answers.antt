@@ -1,7 +1,7 @@
 use Rattle.std.proofs.Common.{refl}
 use Rattle.core_host.specs.Hosted.{code_of}
 use Rattle.core_host.specs.Runs.{HostHasRun}
-use Rattle.trace_runs.proofs.Following.{code_starts}
+use Rattle.trace_ticks.proofs.Following.{code_starts}
 use Rattle.trace_runs.proofs.beside.lead_hosts.Goals as goal
 
 pub returns-clause-ok : goal.returns-clause-ok

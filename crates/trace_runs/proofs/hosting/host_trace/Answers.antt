@@ -1,8 +1,8 @@
 use Rattle.std.proofs.Common.{rules, refl}
 use Rattle.forec_base.specs.declared.limits.TheConstants.{MAX_ROWS}
 use Rattle.forec_kernel.specs.Shapes.{plain_kernel}
-use Rattle.trace_runs.specs.KernelNames.{run_format}
-use Rattle.trace_runs.proofs.RunEnds.{rows_unrun}
+use Rattle.trace_ticks.specs.KernelNames.{run_format}
+use Rattle.trace_ticks.proofs.RunEnds.{rows_unrun}
 use Rattle.trace_runs.proofs.hosting.host_trace.Goals as goal
 
 pub returns-in_default : goal.returns-in_default

@@ -1,7 +1,7 @@
 use Rattle.std.proofs.Common.{rules, refl}
 use Rattle.forec_kernel.specs.Shapes.{plain_kernel}
-use Rattle.trace_runs.specs.Workload.{ticked_report}
-use Rattle.trace_runs.proofs.RunEnds.{workload_unrun}
+use Rattle.trace_ticks.specs.Workload.{ticked_report}
+use Rattle.trace_ticks.proofs.RunEnds.{workload_unrun}
 use Rattle.trace_runs.proofs.hosting.host_workload.Goals as goal
 
 pub returns-in_default : goal.returns-in_default

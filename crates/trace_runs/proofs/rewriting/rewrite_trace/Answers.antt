@@ -3,16 +3,16 @@ use Rattle.forec_base.specs.declared.limits.TheConstants.{MAX_ROWS}
 use Rattle.forec_kernel.specs.declared.shape.KernelParts.{KernelParts}
 use Rattle.forec_kernel.specs.declared.shape.Shape.{Shape}
 use Rattle.forec_kernel.specs.Shapes.{PlainShape, plain_shape, plain_kernel}
-use Rattle.trace_runs.specs.Formats.{format_for}
-use Rattle.trace_runs.specs.KernelNames.{outputs_of, run_format}
-use Rattle.trace_runs.specs.declared.format.Format.{Format}
-use Rattle.trace_runs.specs.Led.{RunsRows}
-use Rattle.trace_runs.specs.Sessions.{IsSessionOf}
-use Rattle.trace_runs.specs.Ticking.{Starts}
+use Rattle.trace_ticks.specs.Formats.{format_for}
+use Rattle.trace_ticks.specs.KernelNames.{outputs_of, run_format}
+use Rattle.trace_ticks.specs.declared.format.Format.{Format}
+use Rattle.trace_ticks.specs.Led.{RunsRows}
+use Rattle.trace_ticks.specs.Sessions.{IsSessionOf}
+use Rattle.trace_ticks.specs.Ticking.{Starts}
 use Rattle.forec_kernel.specs.Composed.{state_after}
 use Rattle.forec_kernel.specs.Ticks.{Fresh}
 use Rattle.kernel_meaning.specs.States.{plain_state}
-use Rattle.trace_runs.proofs.RunEnds.{rows_unrun, rows_as}
+use Rattle.trace_ticks.proofs.RunEnds.{rows_unrun, rows_as}
 use Rattle.trace_runs.proofs.rewriting.rewrite_trace.Goals as goal
 
 pub returns-in_default : goal.returns-in_default

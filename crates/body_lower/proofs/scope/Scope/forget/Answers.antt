@@ -1,5 +1,5 @@
 use Rattle.std.proofs.Common.{◌∙◌, sym, ap, map, length, length-take, arith}
-use Rattle.forec_check.specs.Declarations.{id_of}
+use Rattle.program_walk.specs.Declarations.{id_of}
 use Rattle.text_kernel.specs.Bindings.{slot_id}
 use Rattle.body_lower.proofs.Looked.{map_take}
 use Rattle.body_lower.proofs.scope.Scope.forget.Goals as goal

@@ -19,5 +19,5 @@ returns-clause-state g c = let s = c.args.self.now in let bs = s.watch.me.0.blan
 
 pub returns-clause-stored : goal.returns-clause-stored
 returns-clause-stored g c = let s = c.args.self.now in let bs = s.watch.me.0.blanks in
-    let k = keeper_is s.board.shared.key.work.value bs (map (λ b. b.seat.me.0.role) s.seats.items) s.watch.me.0.role s.root.1 in
+    let k = keeper_is s.watch.me.0.role s.root.1 in
     λ root yes. ap stored_of k.3 ∙ c.check.ensures.stored bs k.0 k.1 k.2 (subst (λ role. Watches s.board.shared.table_id s.board.shared.key.work.value bs role s.watch) k.3 s.root.0) yes

@@ -1,4 +1,5 @@
-use Rattle.std.proofs.Common.{rules, ℕ, ◌≡◌, ◌≤◌, ◌^◌, ◌<◌, ◌+◌, ◌-◌, ◌*◌, Some, None, List, length, refl, sym, ap, ◌∙◌, subst, arith}
+use Rattle.std.proofs.Common.{rules, ℕ, suc, true, ◌≡◌, ◌≤◌, ◌^◌, ◌<◌, ◌+◌, ◌-◌, ◌*◌, Some, None, List, length, refl, sym, ap, ◌∙◌, subst, arith}
+use Rattle.std.specs.Prelude.{slice_set}
 use Rattle.std.proofs.lemmas.Option.{slice_get_within}
 use Rattle.std.proofs.Math.Facts.{Fits-of_lt}
 use Rattle.thread_code.specs.declared.instruction.CodeParts.{CodeParts}
@@ -10,13 +11,17 @@ use Rattle.forec_kernel.specs.Packed.{HasRoom, IsJob}
 use Rattle.thread_code.specs.Valid.{of_shape}
 use Rattle.combine_tree.specs.declared.packet.Packet.{Packet}
 use Rattle.combine_tree.specs.Plain.{plain_packet}
-use Rattle.core_seats.specs.Keeping.{SchedulerState, code_in, QuietAbove, KeepsBelow, HaveHeard}
+use Rattle.copy_slots.specs.Ports.{ChildIs, taken}
+use Rattle.core_seats.specs.Asking.{Replies}
+use Rattle.core_seats.specs.Keeping.{SchedulerState, code_in, QuietAbove, KeepsBelow, HaveHeard, LacksPacket, IsBack}
+use Rattle.core_seats.proofs.Mails.{state}
 use Rattle.core_seats.proofs.KeepingLemmas.{leaves_same, leaves_then, fitted_keeps}
 use Rattle.tick_jobs.proofs.Lists.{past_end}
 use Rattle.core_seats.proofs.ChildrenRunLemmas.{consulted_none, some_number, fitted_b, above_m, inside_m, can_send, some_packet, is_called, sent_above, consulted_more, have_heard}
 use Rattle.core_seats.proofs.Finishing.{Counted, job_runs, allowance_is, at_fork, some_at, bound, next}
 use Rattle.tick_jobs.proofs.Forks.{came_to_fork, fits_forks, replied_by, stands_by}
-use Rattle.core_seats.proofs.SchedulerCalls.{loaded_now, resting_now, begins_now, room_now, small_now, raw_fitted, number1, raw_above, raw_followed, reply_room, answer_held, answer_answers, end_back, end_above, end_leaves}
+use Rattle.core_seats.proofs.SchedulerCalls.{loaded_now, resting_now, begins_now, room_now, small_now, has_begun, reply_room, has_answer, has_ended}
+use Rattle.core_seats.proofs.scheduler.Scheduler.+finish.Goals.{run_child-After-reply, run_child-After-answer}
 use Rattle.core_seats.proofs.scheduler.Scheduler.+finish.Goals as goal
 
 -- ---- run_children
@@ -55,99 +60,78 @@ run_children-returns-clause-heard g t c =
 
 pub run_child-begin-requires-clause-loaded : goal.run_child-begin-requires-clause-loaded
 run_child-begin-requires-clause-loaded g t c =
-    loaded_now c.args.self.now c.args.mailbox c.requires.fitted.seated c.requires.inside c.requires.called.idle c.self.inside.code.now c.self.inside.places.items (g.P.Port.state c.self.inside.port) (g.P.Port.state c.take.new.self)
-    c.self.inside.seats.items c.self.inside.hands.items c.self.view_is c.in-Some.packet c.in-Some.ensures.state c.in-Some.ensures.job c.index_mut.result.now c.index_mut.ensures.value c.take-2.result c.take-2.ensures.value
-    c.deref_mut-thread.result.now (c.in-Some-take.is ∙ ap Some (sym c.deref_mut-thread.ensures.value))
+    loaded_now c.requires.fitted.seated c.requires.inside c.requires.called.idle c.self.view_is c.in-Some.packet c.in-Some.ensures.state c.in-Some.ensures.job c.index_mut.ensures.value c.take-2.ensures.value
+    (c.in-Some-take.is ∙ ap Some (sym c.deref_mut-thread.ensures.value))
 
 pub run_child-begin-requires-clause-resting : goal.run_child-begin-requires-clause-resting
 run_child-begin-requires-clause-resting g t c =
-    resting_now c.args.self.now c.args.mailbox c.requires.fitted.seated c.requires.inside c.requires.called.idle c.self.inside.code.now c.self.inside.places.items (g.P.Port.state c.self.inside.port) (g.P.Port.state c.take.new.self)
-    c.self.inside.seats.items c.self.inside.hands.items c.self.view_is c.in-Some.packet c.in-Some.ensures.state c.in-Some.ensures.job c.index_mut.result.now c.index_mut.ensures.value c.take-2.result c.take-2.ensures.value
-    c.deref_mut-thread.result.now (c.in-Some-take.is ∙ ap Some (sym c.deref_mut-thread.ensures.value))
+    resting_now c.requires.fitted.seated c.requires.inside c.requires.called.idle c.self.view_is c.in-Some.packet c.in-Some.ensures.state c.in-Some.ensures.job c.index_mut.ensures.value c.take-2.ensures.value
+    (c.in-Some-take.is ∙ ap Some (sym c.deref_mut-thread.ensures.value))
 
 pub run_child-begin-requires-clause-job : goal.run_child-begin-requires-clause-job
 run_child-begin-requires-clause-job g t c =
     subst (λ (p : Packet). CanBegin c.deref_mut-thread.result.now p.kind) (sym c.deref.ensures)
-    (begins_now c.args.self.now c.args.mailbox c.requires.fitted.seated c.requires.inside c.requires.called.idle c.self.inside.code.now c.self.inside.places.items (g.P.Port.state c.self.inside.port) (g.P.Port.state c.take.new.self)
-    c.self.inside.seats.items c.self.inside.hands.items c.self.view_is c.in-Some.packet c.in-Some.ensures.state c.in-Some.ensures.job c.index_mut.result.now c.index_mut.ensures.value c.take-2.result c.take-2.ensures.value
-    c.deref_mut-thread.result.now (c.in-Some-take.is ∙ ap Some (sym c.deref_mut-thread.ensures.value)))
+    (begins_now c.requires.fitted.seated c.requires.inside c.requires.called.idle c.self.view_is c.in-Some.packet c.in-Some.ensures.state c.in-Some.ensures.job c.index_mut.ensures.value c.take-2.ensures.value
+    (c.in-Some-take.is ∙ ap Some (sym c.deref_mut-thread.ensures.value)))
 
 pub run_child-begin-requires-clause-room : goal.run_child-begin-requires-clause-room
 run_child-begin-requires-clause-room g t c =
     subst (λ (p : Packet). HasRoom (of_shape (plain_code c.self.inside.code.now).shape) c.deref_mut-thread.result.now.number (plain_packet p)) (sym c.deref.ensures)
-    (room_now c.args.self.now c.args.mailbox c.requires.fitted.seated c.requires.inside c.requires.called.idle c.self.inside.code.now c.self.inside.places.items (g.P.Port.state c.self.inside.port) (g.P.Port.state c.take.new.self)
-    c.self.inside.seats.items c.self.inside.hands.items c.self.view_is c.in-Some.packet c.in-Some.ensures.state c.in-Some.ensures.job c.index_mut.result.now c.index_mut.ensures.value c.take-2.result c.take-2.ensures.value
-    c.deref_mut-thread.result.now (c.in-Some-take.is ∙ ap Some (sym c.deref_mut-thread.ensures.value)))
+    (room_now c.requires.fitted.seated c.requires.inside c.requires.called.idle c.self.view_is c.in-Some.packet c.in-Some.ensures.state c.in-Some.ensures.job c.index_mut.ensures.value c.take-2.ensures.value
+    (c.in-Some-take.is ∙ ap Some (sym c.deref_mut-thread.ensures.value)))
 
 pub run_child-begin-requires-clause-small : goal.run_child-begin-requires-clause-small
 run_child-begin-requires-clause-small g t c =
     subst (λ (p : Packet). p.allowance ≤ 2 ^ 62) (sym c.deref.ensures)
-    (small_now c.args.self.now c.args.mailbox c.requires.fitted.seated c.requires.inside c.requires.called.idle c.self.inside.code.now c.self.inside.places.items (g.P.Port.state c.self.inside.port) (g.P.Port.state c.take.new.self)
-    c.self.inside.seats.items c.self.inside.hands.items c.self.view_is c.in-Some.packet c.in-Some.ensures.state c.in-Some.ensures.job c.index_mut.result.now c.index_mut.ensures.value c.take-2.result c.take-2.ensures.value
-    c.deref_mut-thread.result.now (c.in-Some-take.is ∙ ap Some (sym c.deref_mut-thread.ensures.value)))
+    (small_now c.requires.fitted.seated c.requires.inside c.requires.called.idle c.self.view_is c.in-Some.packet c.in-Some.ensures.state c.in-Some.ensures.job c.index_mut.ensures.value c.take-2.ensures.value
+    (c.in-Some-take.is ∙ ap Some (sym c.deref_mut-thread.ensures.value)))
 
 pub run_child-reply-requires-clause-room : goal.run_child-reply-requires-clause-room
 run_child-reply-requires-clause-room g t c =
     subst (λ (p : Packet). HasRoom (of_shape (plain_code c.self-2.inside.code.now).shape) c.finish.new.thread.number (plain_packet p)) (sym c.deref_mut.ensures.value)
-    (reply_room c.args.self.now c.args.mailbox c.requires.fitted.seated c.requires.inside c.requires.called.idle c.self.inside.code.now c.self.inside.places.items (g.P.Port.state c.self.inside.port) (g.P.Port.state c.take.new.self)
-    c.self.inside.seats.items c.self.inside.hands.items c.self.view_is c.in-Some.packet c.in-Some.ensures.state c.in-Some.ensures.job c.index_mut.result.now c.index_mut.ensures.value c.take-2.result c.take-2.ensures.value
-    c.deref_mut-thread.result.now (c.in-Some-take.is ∙ ap Some (sym c.deref_mut-thread.ensures.value))
-    (record { thread = c.take-2.new.self; job = c.index_mut.result.now.job }) c.begin.new.self c.begin.ensures.number (λ xs job is. c.begin.ensures.stands xs job (subst (λ (p : Packet). IsJob (plain_packet p) job) (sym c.deref.ensures) is))
-    c.requires.fitted.tells c.in-Some.ensures.turn c.finish.new.self c.finish.new.thread c.finish.ensures.number c.finish.ensures.loaded c.finish.ensures.reply c.finish.ensures.above c.finish.ensures.leaves c.finish.ensures.done
-    c.self-2.inside.code.now c.self-2.inside.places.items (g.P.Port.state c.self-2.inside.port) c.self-2.inside.seats.items c.self-2.inside.hands.items c.self-2.view_is)
+    (reply_room c.requires.fitted.seated c.requires.inside c.requires.called.idle c.self.view_is c.in-Some.packet c.in-Some.ensures.state c.in-Some.ensures.job c.index_mut.ensures.value c.take-2.ensures.value
+    (c.in-Some-take.is ∙ ap Some (sym c.deref_mut-thread.ensures.value))
+    (record { thread = c.take-2.new.self; job = c.index_mut.result.now.job }) c.begin.ensures.number (λ xs job is. c.begin.ensures.stands xs job (subst (λ (p : Packet). IsJob (plain_packet p) job) (sym c.deref.ensures) is))
+    c.requires.fitted.tells c.in-Some.ensures.turn c.finish.ensures.number c.finish.ensures.loaded c.finish.ensures.reply c.finish.ensures.above c.finish.ensures.leaves c.finish.ensures.done c.self-2.view_is)
+
+-- its answer
+module _ (g : _) (t : _) (c : run_child-After-reply g t) where
+  answers : ChildIs (g.P.Port.state c.self-2.inside.port) c.args.mailbox true
+      × Replies (plain_code (g.P.Port.state c.self-2.inside.port).work.code.value) c.args.mailbox (taken (g.P.Port.state c.self-2.inside.port) c.args.mailbox) (plain_packet c.reply.new.packet)
+  answers =
+      has_answer c.requires.fitted.seated c.requires.inside c.requires.called.idle c.self.view_is c.in-Some.packet c.in-Some.ensures.state c.in-Some.ensures.job c.index_mut.ensures.value c.take-2.ensures.value
+      (c.in-Some-take.is ∙ ap Some (sym c.deref_mut-thread.ensures.value))
+      (record { thread = c.take-2.new.self; job = c.index_mut.result.now.job }) c.begin.ensures.number (λ xs job is. c.begin.ensures.stands xs job (subst (λ (p : Packet). IsJob (plain_packet p) job) (sym c.deref.ensures) is))
+      c.requires.fitted.tells c.in-Some.ensures.turn c.finish.ensures.number c.finish.ensures.loaded c.finish.ensures.reply c.finish.ensures.above c.finish.ensures.leaves c.finish.ensures.done c.self-2.view_is
+      c.reply.new.packet c.reply.ensures.room c.reply.ensures.kind c.reply.ensures.gives
 
 pub run_child-answer-requires-clause-held : goal.run_child-answer-requires-clause-held
-run_child-answer-requires-clause-held g t c =
-    answer_held c.args.self.now c.args.mailbox c.requires.fitted.seated c.requires.inside c.requires.called.idle c.self.inside.code.now c.self.inside.places.items (g.P.Port.state c.self.inside.port) (g.P.Port.state c.take.new.self)
-    c.self.inside.seats.items c.self.inside.hands.items c.self.view_is c.in-Some.packet c.in-Some.ensures.state c.in-Some.ensures.job c.index_mut.result.now c.index_mut.ensures.value c.take-2.result c.take-2.ensures.value
-    c.deref_mut-thread.result.now (c.in-Some-take.is ∙ ap Some (sym c.deref_mut-thread.ensures.value))
-    (record { thread = c.take-2.new.self; job = c.index_mut.result.now.job }) c.begin.new.self c.begin.ensures.number (λ xs job is. c.begin.ensures.stands xs job (subst (λ (p : Packet). IsJob (plain_packet p) job) (sym c.deref.ensures) is))
-    c.requires.fitted.tells c.in-Some.ensures.turn c.finish.new.self c.finish.new.thread c.finish.ensures.number c.finish.ensures.loaded c.finish.ensures.reply c.finish.ensures.above c.finish.ensures.leaves c.finish.ensures.done
-    c.self-2.inside.code.now c.self-2.inside.places.items (g.P.Port.state c.self-2.inside.port) c.self-2.inside.seats.items c.self-2.inside.hands.items c.self-2.view_is
-    c.reply.new.packet c.reply.ensures.room c.reply.ensures.kind c.reply.ensures.gives
+run_child-answer-requires-clause-held g t c = (answers g t (goal.at.run_child-answer-requires-clause-held g t c).After-reply).0
 
 pub run_child-answer-requires-clause-answers : goal.run_child-answer-requires-clause-answers
-run_child-answer-requires-clause-answers g t c =
-    answer_answers c.args.self.now c.args.mailbox c.requires.fitted.seated c.requires.inside c.requires.called.idle c.self.inside.code.now c.self.inside.places.items (g.P.Port.state c.self.inside.port) (g.P.Port.state c.take.new.self)
-    c.self.inside.seats.items c.self.inside.hands.items c.self.view_is c.in-Some.packet c.in-Some.ensures.state c.in-Some.ensures.job c.index_mut.result.now c.index_mut.ensures.value c.take-2.result c.take-2.ensures.value
-    c.deref_mut-thread.result.now (c.in-Some-take.is ∙ ap Some (sym c.deref_mut-thread.ensures.value))
-    (record { thread = c.take-2.new.self; job = c.index_mut.result.now.job }) c.begin.new.self c.begin.ensures.number (λ xs job is. c.begin.ensures.stands xs job (subst (λ (p : Packet). IsJob (plain_packet p) job) (sym c.deref.ensures) is))
-    c.requires.fitted.tells c.in-Some.ensures.turn c.finish.new.self c.finish.new.thread c.finish.ensures.number c.finish.ensures.loaded c.finish.ensures.reply c.finish.ensures.above c.finish.ensures.leaves c.finish.ensures.done
-    c.self-2.inside.code.now c.self-2.inside.places.items (g.P.Port.state c.self-2.inside.port) c.self-2.inside.seats.items c.self-2.inside.hands.items c.self-2.view_is
-    c.reply.new.packet c.reply.ensures.room c.reply.ensures.kind c.reply.ensures.gives
+run_child-answer-requires-clause-answers g t c = (answers g t (goal.at.run_child-answer-requires-clause-answers g t c).After-reply).1
+
+-- the thread has answered
+module _ (g : _) (t : _) (c : run_child-After-answer g t) where
+  abbrev answered : SchedulerState
+  answered = state c.self-2.inside.code.now c.self-2.inside.places.items (g.P.Port.state c.answer.new.self) (slice_set c.self-2.inside.seats.items (c.args.mailbox + 1) (record { thread = Some c.finish.new.thread; job = None })) c.self-2.inside.hands.items
+
+  ends : (LacksPacket c.args.self.now c.args.mailbox → IsBack answered c.args.mailbox) × QuietAbove answered (suc c.args.mailbox) × KeepsBelow (suc c.args.mailbox) c.args.mailbox c.args.self.now answered
+  ends =
+      has_ended c.requires.fitted.seated c.requires.inside c.requires.called.idle c.self.view_is c.in-Some.packet c.in-Some.ensures.state c.in-Some.ensures.job c.index_mut.ensures.value c.take-2.ensures.value
+      (c.in-Some-take.is ∙ ap Some (sym c.deref_mut-thread.ensures.value))
+      (record { thread = c.take-2.new.self; job = c.index_mut.result.now.job }) c.begin.ensures.number (λ xs job is. c.begin.ensures.stands xs job (subst (λ (p : Packet). IsJob (plain_packet p) job) (sym c.deref.ensures) is))
+      c.requires.fitted.tells c.in-Some.ensures.turn c.finish.ensures.number c.finish.ensures.loaded c.finish.ensures.reply c.finish.ensures.above c.finish.ensures.leaves c.finish.ensures.done c.self-2.view_is
+      c.reply.new.packet c.reply.ensures.room c.reply.ensures.kind c.reply.ensures.gives (record { thread = Some c.finish.new.thread; job = None }) refl refl c.answer.ensures
 
 pub run_child-returns-clause-back : goal.run_child-returns-clause-back
-run_child-returns-clause-back g t c =
-    end_back c.args.self.now c.args.mailbox c.requires.fitted.seated c.requires.inside c.requires.called.idle c.self.inside.code.now c.self.inside.places.items (g.P.Port.state c.self.inside.port) (g.P.Port.state c.take.new.self)
-    c.self.inside.seats.items c.self.inside.hands.items c.self.view_is c.in-Some.packet c.in-Some.ensures.state c.in-Some.ensures.job c.index_mut.result.now c.index_mut.ensures.value c.take-2.result c.take-2.ensures.value
-    c.deref_mut-thread.result.now (c.in-Some-take.is ∙ ap Some (sym c.deref_mut-thread.ensures.value))
-    (record { thread = c.take-2.new.self; job = c.index_mut.result.now.job }) c.begin.new.self c.begin.ensures.number (λ xs job is. c.begin.ensures.stands xs job (subst (λ (p : Packet). IsJob (plain_packet p) job) (sym c.deref.ensures) is))
-    c.requires.fitted.tells c.in-Some.ensures.turn c.finish.new.self c.finish.new.thread c.finish.ensures.number c.finish.ensures.loaded c.finish.ensures.reply c.finish.ensures.above c.finish.ensures.leaves c.finish.ensures.done
-    c.self-2.inside.code.now c.self-2.inside.places.items (g.P.Port.state c.self-2.inside.port) c.self-2.inside.seats.items c.self-2.inside.hands.items c.self-2.view_is
-    c.reply.new.packet c.reply.ensures.room c.reply.ensures.kind c.reply.ensures.gives
-    (record { thread = Some c.finish.new.thread; job = None }) refl refl (g.P.Port.state c.answer.new.self) c.answer.ensures c.requires.called.lacks
+run_child-returns-clause-back g t c = (ends g t (goal.at.run_child-returns-clause-back g t c).After-answer).0 c.requires.called.lacks
 
 pub run_child-returns-clause-above : goal.run_child-returns-clause-above
-run_child-returns-clause-above g t c =
-    end_above c.args.self.now c.args.mailbox c.requires.fitted.seated c.requires.inside c.requires.called.idle c.self.inside.code.now c.self.inside.places.items (g.P.Port.state c.self.inside.port) (g.P.Port.state c.take.new.self)
-    c.self.inside.seats.items c.self.inside.hands.items c.self.view_is c.in-Some.packet c.in-Some.ensures.state c.in-Some.ensures.job c.index_mut.result.now c.index_mut.ensures.value c.take-2.result c.take-2.ensures.value
-    c.deref_mut-thread.result.now (c.in-Some-take.is ∙ ap Some (sym c.deref_mut-thread.ensures.value))
-    (record { thread = c.take-2.new.self; job = c.index_mut.result.now.job }) c.begin.new.self c.begin.ensures.number (λ xs job is. c.begin.ensures.stands xs job (subst (λ (p : Packet). IsJob (plain_packet p) job) (sym c.deref.ensures) is))
-    c.requires.fitted.tells c.in-Some.ensures.turn c.finish.new.self c.finish.new.thread c.finish.ensures.number c.finish.ensures.loaded c.finish.ensures.reply c.finish.ensures.above c.finish.ensures.leaves c.finish.ensures.done
-    c.self-2.inside.code.now c.self-2.inside.places.items (g.P.Port.state c.self-2.inside.port) c.self-2.inside.seats.items c.self-2.inside.hands.items c.self-2.view_is
-    c.reply.new.packet c.reply.ensures.room c.reply.ensures.kind c.reply.ensures.gives
-    (record { thread = Some c.finish.new.thread; job = None }) refl refl (g.P.Port.state c.answer.new.self) c.answer.ensures
+run_child-returns-clause-above g t c = (ends g t (goal.at.run_child-returns-clause-above g t c).After-answer).1
 
 pub run_child-returns-clause-leaves : goal.run_child-returns-clause-leaves
-run_child-returns-clause-leaves g t c =
-    end_leaves c.args.self.now c.args.mailbox c.requires.fitted.seated c.requires.inside c.requires.called.idle c.self.inside.code.now c.self.inside.places.items (g.P.Port.state c.self.inside.port) (g.P.Port.state c.take.new.self)
-    c.self.inside.seats.items c.self.inside.hands.items c.self.view_is c.in-Some.packet c.in-Some.ensures.state c.in-Some.ensures.job c.index_mut.result.now c.index_mut.ensures.value c.take-2.result c.take-2.ensures.value
-    c.deref_mut-thread.result.now (c.in-Some-take.is ∙ ap Some (sym c.deref_mut-thread.ensures.value))
-    (record { thread = c.take-2.new.self; job = c.index_mut.result.now.job }) c.begin.new.self c.begin.ensures.number (λ xs job is. c.begin.ensures.stands xs job (subst (λ (p : Packet). IsJob (plain_packet p) job) (sym c.deref.ensures) is))
-    c.requires.fitted.tells c.in-Some.ensures.turn c.finish.new.self c.finish.new.thread c.finish.ensures.number c.finish.ensures.loaded c.finish.ensures.reply c.finish.ensures.above c.finish.ensures.leaves c.finish.ensures.done
-    c.self-2.inside.code.now c.self-2.inside.places.items (g.P.Port.state c.self-2.inside.port) c.self-2.inside.seats.items c.self-2.inside.hands.items c.self-2.view_is
-    c.reply.new.packet c.reply.ensures.room c.reply.ensures.kind c.reply.ensures.gives
-    (record { thread = Some c.finish.new.thread; job = None }) refl refl (g.P.Port.state c.answer.new.self) c.answer.ensures
+run_child-returns-clause-leaves g t c = (ends g t (goal.at.run_child-returns-clause-leaves g t c).After-answer).2
 
 -- ---- finish
 
@@ -281,21 +265,9 @@ run_children-run_child-requires g t c κs within =
 
 pub run_child-finish-requires : goal.run_child-finish-requires
 run_child-finish-requires g t c κs within =
-    let number = number1 c.args.self.now c.args.mailbox c.requires.fitted.seated c.requires.inside c.requires.called.idle c.self.inside.code.now c.self.inside.places.items (g.P.Port.state c.self.inside.port) (g.P.Port.state c.take.new.self)
-    c.self.inside.seats.items c.self.inside.hands.items c.self.view_is c.in-Some.packet c.in-Some.ensures.state c.in-Some.ensures.job c.index_mut.result.now c.index_mut.ensures.value c.take-2.result c.take-2.ensures.value
-    c.deref_mut-thread.result.now (c.in-Some-take.is ∙ ap Some (sym c.deref_mut-thread.ensures.value))
-    (record { thread = c.take-2.new.self; job = c.index_mut.result.now.job }) c.begin.new.self c.begin.ensures.number (λ xs job is. c.begin.ensures.stands xs job (subst (λ (p : Packet). IsJob (plain_packet p) job) (sym c.deref.ensures) is)) in
+    let begun = has_begun c.requires.fitted.seated c.requires.inside c.requires.called.idle c.self.view_is c.in-Some.packet c.in-Some.ensures.state c.in-Some.ensures.job c.index_mut.ensures.value c.take-2.ensures.value
+    (c.in-Some-take.is ∙ ap Some (sym c.deref_mut-thread.ensures.value))
+    (record { thread = c.take-2.new.self; job = c.index_mut.result.now.job }) c.begin.ensures.number (λ xs job is. c.begin.ensures.stands xs job (subst (λ (p : Packet). IsJob (plain_packet p) job) (sym c.deref.ensures) is)) in
+    let number = begun.0 in
     let smaller : 3 * (257 - c.begin.new.self.number) + 2 < 3 * (256 - c.args.mailbox) + 3 = omega (arith, number) in
-    let fitted = raw_fitted c.args.self.now c.args.mailbox c.requires.fitted.seated c.requires.inside c.requires.called.idle c.self.inside.code.now c.self.inside.places.items (g.P.Port.state c.self.inside.port) (g.P.Port.state c.take.new.self)
-    c.self.inside.seats.items c.self.inside.hands.items c.self.view_is c.in-Some.packet c.in-Some.ensures.state c.in-Some.ensures.job c.index_mut.result.now c.index_mut.ensures.value c.take-2.result c.take-2.ensures.value
-    c.deref_mut-thread.result.now (c.in-Some-take.is ∙ ap Some (sym c.deref_mut-thread.ensures.value))
-    (record { thread = c.take-2.new.self; job = c.index_mut.result.now.job }) c.requires.fitted.tells in
-    let begun = raw_followed c.args.self.now c.args.mailbox c.requires.fitted.seated c.requires.inside c.requires.called.idle c.self.inside.code.now c.self.inside.places.items (g.P.Port.state c.self.inside.port) (g.P.Port.state c.take.new.self)
-    c.self.inside.seats.items c.self.inside.hands.items c.self.view_is c.in-Some.packet c.in-Some.ensures.state c.in-Some.ensures.job c.index_mut.result.now c.index_mut.ensures.value c.take-2.result c.take-2.ensures.value
-    c.deref_mut-thread.result.now (c.in-Some-take.is ∙ ap Some (sym c.deref_mut-thread.ensures.value))
-    (record { thread = c.take-2.new.self; job = c.index_mut.result.now.job }) c.begin.new.self c.begin.ensures.number (λ xs job is. c.begin.ensures.stands xs job (subst (λ (p : Packet). IsJob (plain_packet p) job) (sym c.deref.ensures) is)) in
-    let above = raw_above c.args.self.now c.args.mailbox c.requires.fitted.seated c.requires.inside c.requires.called.idle c.self.inside.code.now c.self.inside.places.items (g.P.Port.state c.self.inside.port) (g.P.Port.state c.take.new.self)
-    c.self.inside.seats.items c.self.inside.hands.items c.self.view_is c.in-Some.packet c.in-Some.ensures.state c.in-Some.ensures.job c.index_mut.result.now c.index_mut.ensures.value c.take-2.result c.take-2.ensures.value
-    c.deref_mut-thread.result.now (c.in-Some-take.is ∙ ap Some (sym c.deref_mut-thread.ensures.value))
-    (record { thread = c.take-2.new.self; job = c.index_mut.result.now.job }) c.begin.new.self c.begin.ensures.number (λ xs job is. c.begin.ensures.stands xs job (subst (λ (p : Packet). IsJob (plain_packet p) job) (sym c.deref.ensures) is)) c.requires.above in
-    (search rules, (within.0, (within.1, (fitted, (c.begin.ensures.loaded, (c.begin.ensures.running, (begun, above)))))))
+    (search rules, (within.0, (within.1, (begun.1 c.requires.fitted.tells, (c.begin.ensures.loaded, (c.begin.ensures.running, (begun.2, begun.3 c.requires.above)))))))

@@ -1,16 +1,14 @@
-use Rattle.std.proofs.Common.{◌≡◌, ◌<◌, ◌≤◌, ◌-◌, List, length}
+use Rattle.std.proofs.Common.{◌≡◌, ◌<◌, ◌-◌, List, length}
 use Rattle.forec_kernel.specs.Engine.{Reply, Exchange}
-use Rattle.core_machine.specs.Threads.{Loaded, StandsFor, HasJoined, CanRun}
+use Rattle.core_machine.specs.Threads.{StandsFor, HasJoined, CanRun}
 use Rattle.core_machine.specs.Forks.{with_replies}
+use Rattle.tick_jobs.proofs.BranchLoops.{AtBranch}
 use Rattle.core_seats.specs.Keeping.{code_in, HaveHeard}
 use Rattle.core_seats.proofs.scheduler.Scheduler.join.Given as goal
 
 abbrev pub invariant-loop-branch : goal.invariant-loop-branch
 invariant-loop-branch g l = record {
-  within : l.k ≤ length l.fn.thread.branches.numbers;
-  loaded : Loaded (code_in l.fn.self) l.thread;
-  number : l.thread.number ≡ l.fn.thread.number;
-  branches : l.thread.branches.numbers ≡ l.fn.thread.branches.numbers;
+  at : AtBranch (code_in l.fn.self) l.fn.thread l.thread l.k;
   order : l.k < length l.fn.thread.branches.numbers → HasJoined l.thread l.k;
   running : l.k ≡ length l.fn.thread.branches.numbers → CanRun l.thread;
   stands : (rs : List Reply) (xs : List Exchange) → HaveHeard l.fn.self l.fn.thread.branches.numbers rs → StandsFor (code_in l.fn.self) l.fn.thread (with_replies xs rs) → StandsFor (code_in l.fn.self) l.thread (with_replies xs rs);

@@ -1,17 +1,15 @@
-use Rattle.std.proofs.Common.{◌≡◌, ◌<◌, ◌≤◌, ◌-◌, List, length}
+use Rattle.std.proofs.Common.{◌≡◌, ◌<◌, ◌-◌, List, length}
 use Rattle.forec_kernel.specs.Engine.{Reply, Exchange}
 use Rattle.thread_code.specs.Plain.{plain_code}
-use Rattle.core_machine.specs.Threads.{Loaded, StandsFor, HasJoined, CanRun}
+use Rattle.core_machine.specs.Threads.{StandsFor, HasJoined, CanRun}
 use Rattle.core_machine.specs.Forks.{with_replies}
+use Rattle.tick_jobs.proofs.BranchLoops.{AtBranch}
 use Rattle.exchange_replay.specs.Walks.{HaveLoggedReplies}
 use Rattle.exchange_replay.proofs.walk.Walk.join.Given as goal
 
 abbrev pub invariant-loop-branch : goal.invariant-loop-branch
 invariant-loop-branch l = record {
-  within : l.k ≤ length l.fn.self.thread.branches.numbers;
-  loaded : Loaded (plain_code l.fn.code) l.self.thread;
-  number : l.self.thread.number ≡ l.fn.self.thread.number;
-  branches : l.self.thread.branches.numbers ≡ l.fn.self.thread.branches.numbers;
+  at : AtBranch (plain_code l.fn.code) l.fn.self.thread l.self.thread l.k;
   tracks : l.self.branches ≡ l.fn.self.branches;
   order : l.k < length l.fn.self.thread.branches.numbers → HasJoined l.self.thread l.k;
   running : l.k ≡ length l.fn.self.thread.branches.numbers → CanRun l.self.thread;

@@ -1,17 +1,15 @@
-use Rattle.std.proofs.Common.{◌≡◌, ◌≤◌, ◌-◌, List, [], take, length}
+use Rattle.std.proofs.Common.{◌≡◌, ◌-◌, List, [], take, length}
 use Rattle.forec_kernel.specs.Engine.{Reply, Exchange}
 use Rattle.thread_code.specs.Plain.{plain_code}
-use Rattle.core_machine.specs.Threads.{Loaded, StandsFor, HasSettled}
+use Rattle.core_machine.specs.Threads.{StandsFor, HasSettled}
 use Rattle.core_machine.specs.Forks.{with_replies}
+use Rattle.tick_jobs.proofs.BranchLoops.{AtBranch}
 use Rattle.exchange_replay.specs.Walks.{HaveLoggedReplies}
 use Rattle.exchange_replay.proofs.walk.Walk.settle.Given as goal
 
 abbrev pub invariant-loop-branch : goal.invariant-loop-branch
 invariant-loop-branch l = record {
-  within : l.k ≤ length l.fn.self.thread.branches.numbers;
-  loaded : Loaded (plain_code l.fn.code) l.self.thread;
-  number : l.self.thread.number ≡ l.fn.self.thread.number;
-  branches : l.self.thread.branches.numbers ≡ l.fn.self.thread.branches.numbers;
+  at : AtBranch (plain_code l.fn.code) l.fn.self.thread l.self.thread l.k;
   tracks : l.self.branches ≡ l.fn.self.branches;
   order : HasSettled l.self.thread l.k;
   stands : (rs : List Reply) (xs : List Exchange) → HaveLoggedReplies (plain_code l.fn.code) l.fn.self l.fn.self.thread.branches.numbers rs → StandsFor (plain_code l.fn.code) l.fn.self.thread (with_replies xs [])

@@ -2,7 +2,7 @@ use Rattle.std.proofs.Common.{◌≡◌, ◌∙◌, ◌+◌, ◌<◌, ℕ, sym, 
 use Rattle.std.specs.Prelude.{reverse}
 use Rattle.std.proofs.Math.Seq.{drop-cons}
 use Rattle.forec_check.specs.AccessScan.{scan_start}
-use Rattle.forec_check.specs.declared.walk.effects.Effect.{Effect}
+use Rattle.program_walk.specs.declared.walk.effects.Effect.{Effect}
 use Rattle.forec_check.specs.AccessCounts.{called_access, scan_effect, scan_effects}
 use Rattle.forec_check.proofs.instances.accesses.text_access.Goals as goal
 

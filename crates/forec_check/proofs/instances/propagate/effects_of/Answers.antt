@@ -2,7 +2,7 @@ use Rattle.std.proofs.Common.{◌≡◌, ◌∙◌, sym, ap, Some}
 use Rattle.std.specs.Prelude.{slice_get}
 use Rattle.std.specs.Option.{option_copied}
 use Rattle.loop_check.specs.Views.{indexed_text}
-use Rattle.forec_check.specs.Walk.{item_effects}
+use Rattle.program_walk.specs.Walk.{item_effects}
 use Rattle.forec_check.proofs.NamingTables.{bodied, found_effects}
 use Rattle.forec_check.proofs.instances.propagate.effects_of.Goals as goal
 

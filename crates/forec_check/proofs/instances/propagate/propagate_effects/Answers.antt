@@ -1,5 +1,5 @@
 use Rattle.std.proofs.Common.{◌≡◌, ◌∙◌, ◌+◌, sym, ap, subst, true, false, get_or}
-use Rattle.forec_check.specs.declared.walk.effects.Effect.TheVariants.{Accesses}
+use Rattle.program_walk.specs.declared.walk.effects.Effect.TheVariants.{Accesses}
 use Rattle.forec_check.specs.CallSites.{site_maps, instances_around, sites_at, opened_sites, MovesNothing}
 use Rattle.forec_check.proofs.Propagation.{same_known, same_next, settled_step}
 use Rattle.forec_check.proofs.instances.propagate.propagate_effects.Goals as goal

@@ -7,7 +7,7 @@ use Rattle.forec_tree.specs.declared.tree.StmtKind.{While}
 use Rattle.forec_tree.specs.Plain as plain
 use Rattle.forec_tree.specs.Terms.{Text, Statement, For, Branches}
 use Rattle.forec_tree.specs.Pauses.{certain, certain_function, some_certain, branch_certain}
-use Rattle.forec_check.specs.Least.{least_from}
+use Rattle.fault_order.specs.Least.{least_from}
 use Rattle.forec_tree.proofs.Rows.{of_kind, of_group, of_abort, of_par, of_if, of_for}
 use Rattle.forec_tree.specs.Plain.{perhaps_of}
 use Rattle.loop_check.specs.Judges.{judge_text}

@@ -1,7 +1,7 @@
 use Rattle.std.proofs.Common.{◌≡◌, ◌||◌, drop}
 use Rattle.forec_tree.specs.Plain as plain
 use Rattle.forec_tree.specs.Pauses as pauses
-use Rattle.forec_check.specs.Least.{least_from}
+use Rattle.fault_order.specs.Least.{least_from}
 use Rattle.loop_check.specs.Judges.{judge_text}
 use Rattle.forec_check.specs.Loops.{loops_in_all, loops_in_branches, loops_faults}
 use Rattle.forec_check.proofs.rules.loops.+loops.Given as goal

@@ -1,7 +1,7 @@
 use Rattle.std.proofs.Common.{◌∙◌, sym, ap}
 use Rattle.forec_tree.specs.declared.tree.Item.{Item}
 use Rattle.forec_tree.specs.Plain as plain
-use Rattle.forec_check.specs.Least.{least_from}
+use Rattle.fault_order.specs.Least.{least_from}
 use Rattle.loop_check.specs.Judges.{judge_text}
 use Rattle.forec_check.specs.Loops.{item_loops, loops_in_all, loops_faults}
 use Rattle.forec_check.proofs.LoopLemmas.{none_here, item_step, items_end}

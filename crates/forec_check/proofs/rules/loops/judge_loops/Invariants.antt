@@ -1,6 +1,6 @@
 use Rattle.std.proofs.Common.{◌≡◌, map, drop}
 use Rattle.forec_tree.specs.Plain as plain
-use Rattle.forec_check.specs.Least.{least_from}
+use Rattle.fault_order.specs.Least.{least_from}
 use Rattle.loop_check.specs.Judges.{judge_text}
 use Rattle.forec_check.specs.Loops.{all_loops, loops_faults}
 use Rattle.forec_check.proofs.rules.loops.judge_loops.Given as goal

@@ -1,6 +1,6 @@
 use Rattle.std.proofs.Common.{◌∙◌, ◌&&◌, ap, not}
 use Rattle.forec_tree.specs.Rules.{fault_if, is_none}
-use Rattle.forec_check.specs.Least.{least_from}
+use Rattle.fault_order.specs.Least.{least_from}
 use Rattle.forec_check.proofs.rules.loops.keep_endless.Goals as goal
 
 pub returns-clause-least : goal.returns-clause-least

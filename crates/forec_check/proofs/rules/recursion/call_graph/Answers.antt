@@ -2,9 +2,9 @@ use Rattle.std.proofs.Common.{◌≡◌, ◌∙◌, sym, ap, Some}
 use Rattle.std.specs.Prelude.{slice_get}
 use Rattle.forec_tree.specs.Plain.{plain_item}
 use Rattle.loop_check.specs.Views.{indexed_text}
-use Rattle.forec_check.specs.Walk.{item_effects}
+use Rattle.program_walk.specs.Walk.{item_effects}
 use Rattle.forec_check.specs.Early.{function_calls, effect_calls}
-use Rattle.forec_check.proofs.ItemRules.{item_get}
+use Rattle.program_walk.proofs.ItemRules.{item_get}
 use Rattle.forec_check.proofs.Recursion.{body_at, list_is}
 use Rattle.forec_check.proofs.rules.recursion.call_graph.Goals as goal
 

@@ -4,7 +4,7 @@ use Rattle.forec_tree.specs.Plain.{plain_item}
 use Rattle.loop_check.specs.Views.{indexed_text}
 use Rattle.loop_check.specs.Graph.{callees, FunctionsCall}
 use Rattle.std.specs.Prelude.{slice_get}
-use Rattle.forec_check.proofs.ItemRules.{item_get}
+use Rattle.program_walk.proofs.ItemRules.{item_get}
 use Rattle.forec_check.proofs.Recursion.{all_early, functions_call}
 use Rattle.forec_check.proofs.rules.recursion.judge_recursion.Goals as goal
 

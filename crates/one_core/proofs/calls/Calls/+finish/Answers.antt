@@ -1,21 +1,24 @@
-use Rattle.std.proofs.Common.{rules, ◌≡◌, ◌≤◌, ◌<◌, ◌+◌, ◌-◌, ◌*◌, ◌++◌, ◌∷◌, [], Some, None, length, slice_get, map, refl, sym, ap, ◌∙◌, subst, arith}
+use Rattle.std.proofs.Common.{rules, ◌≡◌, ◌≤◌, ◌<◌, ◌+◌, ◌-◌, ◌*◌, ◌++◌, ◌∷◌, [], Some, None, List, length, slice_get, map, refl, sym, ap, ◌∙◌, subst, arith}
 use Rattle.std.specs.Prelude.{slice_set}
 use Rattle.std.proofs.lemmas.Option.{slice_get_within}
 use Rattle.std.proofs.Math.Facts.{Fits-of_lt}
 use Rattle.thread_code.specs.declared.instruction.CodeParts.{CodeParts}
 use Rattle.thread_code.specs.Plain.{plain_code}
 use Rattle.thread_code.specs.Alone.{block_of}
+use Rattle.forec_kernel.specs.Engine.{Job}
 use Rattle.core_machine.specs.Threads.{Loaded, StandsFor, HasSettled, LeftByEvent}
 use Rattle.core_machine.specs.Forks.{jobs_at, with_replies}
 use Rattle.tick_jobs.proofs.Lists.{past_end}
 use Rattle.tick_jobs.proofs.Forks.{fits_forks, replied_by, stands_by}
 use Rattle.one_core.specs.Seats.{Seated, seated_code, HasAllSeats, KeepsSeatsBelow}
 use Rattle.tick_jobs.specs.Told.{Book}
+use Rattle.one_core.specs.Resting.{IsAtJob}
 use Rattle.one_core.specs.Called.{CanCall, BranchHasReplied, HasSettledReplies, BranchesHaveReplies}
 use Rattle.one_core.proofs.TellLemmas.{fitted_keeps, leaves_same, leaves_then}
 use Rattle.one_core.proofs.CallLemmas.{seated, fitted_set, in_branches, not_empty, child_loaded, child_at, child_rests, child_takes, number_is, has_begun, has_left, has_called, gave}
 use Rattle.one_core.proofs.ConsultLemmas.{consulted_none, some_call, consulted_more, have_heard}
-use Rattle.one_core.proofs.FinishLemmas.{begun_works, begun_allowance, going_none, begun_on, stays_here, stays_after, going_on, stays, its_fork, can_tell, some_branch, its_bound, goes_on}
+use Rattle.one_core.proofs.FinishLemmas.{Going, begun_works, begun_allowance, going_none, begun_on, stays_here, stays_after, going_on, stays, its_fork, can_tell, some_branch, its_bound, goes_on}
+use Rattle.one_core.proofs.calls.Calls.+finish.Goals.{serve_forks-After-run}
 use Rattle.one_core.proofs.calls.Calls.+finish.Goals as goal
 
 -- ---- call_branches
@@ -121,53 +124,61 @@ serve_forks-loop-smaller g t c =
     c.requires.fitted i.leaves i.loaded i.fork i.branches (begun_allowance c.args.self.now c.args.thread.now c.requires.begun) c.requires.begun.first in
     omega (arith, b)
 
+-- the thread after a fork that was served
+module _ (g : _) (t : _) (c : serve_forks-After-run g t) where
+  done : HasSettledReplies c.loop.self c.call_branches.new.self c.loop.thread c.call_branches.new.thread (length c.loop.thread.branches.numbers)
+  done = c.call_branches.ensures.called
+
+  same_code : c.call_branches.new.self.code ≡ c.args.self.now.code
+  same_code = done.leaves.code ∙ c.loop.invariant.leaves.code
+
+  code : c.self.inside.code.now ≡ c.args.self.now.code
+  code = ap (λ (s : Seated). s.code) c.self.view_is ∙ same_code
+
+  number : c.run.new.self.number ≡ c.args.thread.now.number
+  number = c.run.ensures.number ∙ c.join.ensures.number ∙ c.call_branches.ensures.number ∙ c.loop.invariant.number
+
+  loaded : Loaded (seated_code c.args.self.now) c.run.new.self
+  loaded = subst (λ (x : CodeParts). Loaded (plain_code x) c.run.new.self) code c.run.ensures.loaded
+
+  leaves : KeepsSeatsBelow c.args.thread.now.number c.args.self.now c.call_branches.new.self
+  leaves =
+      let there = c.loop.invariant.number in
+      leaves_then c.args.thread.now.number c.loop.thread.number c.args.self.now c.loop.self c.call_branches.new.self (omega (arith, there)) c.loop.invariant.leaves done.leaves
+
+  at_work : (book : Book) (jobs : List Job) (job : Job) (w : IsAtJob c.args.self.now c.args.thread.now book jobs job) → Going c.args.self.now c.args.thread.now c.call_branches.new.self c.run.new.self (c.loop.forks + 1) book jobs job w
+  at_work book jobs job w =
+      let i = c.loop.invariant in
+      let stands = stands_by code c.join.new.thread c.run.new.self c.run.ensures.stands in
+      let le : length c.loop.thread.branches.numbers ≤ length c.loop.thread.branches.numbers = omega arith in
+      let all = have_heard c.loop.self c.call_branches.new.self c.loop.thread c.call_branches.new.thread (length c.loop.thread.branches.numbers) done le in
+      going_on c.args.self.now c.join.new.thread c.run.new.self c.run.ensures.number stands c.args.thread.now c.call_branches.new.self (c.loop.forks + 1) book jobs job w
+      (goes_on c.args.self.now c.loop.self c.args.thread.now c.loop.thread i.number c.loop.forks book jobs job w (i.at book jobs job w)
+      c.requires.fitted i.leaves i.loaded i.fork i.branches c.call_branches.new.self c.call_branches.new.thread c.join.new.thread done c.call_branches.ensures.number c.join.ensures.number
+      (λ xs st. c.join.ensures.stands done.replies xs (subst (λ l. BranchesHaveReplies c.call_branches.new.self l done.replies) (sym c.call_branches.ensures.branches) all) st))
+
 pub serve_forks-loop-preserved : goal.serve_forks-loop-preserved
 serve_forks-loop-preserved g t c =
-    let i = c.loop.invariant in
-    let done = c.call_branches.ensures.called in
-    let same = done.leaves.code ∙ i.leaves.code in
-    let code : c.self.inside.code.now ≡ c.args.self.now.code = ap (λ (s : Seated). s.code) c.self.view_is ∙ same in
-    let stands = stands_by code c.join.new.thread c.run.new.self c.run.ensures.stands in
-    let le : length c.loop.thread.branches.numbers ≤ length c.loop.thread.branches.numbers = omega arith in
-    let all = have_heard c.loop.self c.call_branches.new.self c.loop.thread c.call_branches.new.thread (length c.loop.thread.branches.numbers) done le in
-    let number = c.run.ensures.number ∙ c.join.ensures.number ∙ c.call_branches.ensures.number ∙ i.number in
-    let there = i.number in
+    let r = (goal.at.serve_forks-loop-preserved g t c).After-run in
     record {
-      loaded = subst (λ (x : CodeParts). Loaded (plain_code x) c.run.new.self) code c.run.ensures.loaded;
+      loaded = loaded g t r;
       fork = subst (λ e. LeftByEvent c.run.new.self e) c.in-Fork.is c.run.ensures.left;
-      branches = subst (λ (x : CodeParts). c.run.new.self.branches.numbers ≡ map (λ w. w.branch) (jobs_at (plain_code x) c.run.new.self)) code (c.run.ensures.branches c.in-Fork.is);
-      number = number;
-      leaves = leaves_then c.args.thread.now.number c.loop.thread.number c.args.self.now c.loop.self c.call_branches.new.self (omega (arith, there)) i.leaves done.leaves;
-      at = λ book jobs job w.
-          going_on c.args.self.now c.join.new.thread c.run.new.self c.run.ensures.number stands c.args.thread.now c.call_branches.new.self (c.loop.forks + 1) book jobs job w
-          (goes_on c.args.self.now c.loop.self c.args.thread.now c.loop.thread i.number c.loop.forks book jobs job w (i.at book jobs job w)
-          c.requires.fitted i.leaves i.loaded i.fork i.branches c.call_branches.new.self c.call_branches.new.thread c.join.new.thread done c.call_branches.ensures.number c.join.ensures.number
-          (λ xs st. c.join.ensures.stands done.replies xs (subst (λ l. BranchesHaveReplies c.call_branches.new.self l done.replies) (sym c.call_branches.ensures.branches) all) st));
+      branches = subst (λ (x : CodeParts). c.run.new.self.branches.numbers ≡ map (λ w. w.branch) (jobs_at (plain_code x) c.run.new.self)) (code g t r) (c.run.ensures.branches c.in-Fork.is);
+      number = number g t r;
+      leaves = leaves g t r;
+      at = at_work g t r;
     }
 
 pub serve_forks-returns-in_default : goal.serve_forks-returns-in_default
 serve_forks-returns-in_default g t c =
-    let i = c.loop.invariant in
-    let done = c.call_branches.ensures.called in
-    let same = done.leaves.code ∙ i.leaves.code in
-    let code : c.self.inside.code.now ≡ c.args.self.now.code = ap (λ (s : Seated). s.code) c.self.view_is ∙ same in
-    let stands = stands_by code c.join.new.thread c.run.new.self c.run.ensures.stands in
-    let le : length c.loop.thread.branches.numbers ≤ length c.loop.thread.branches.numbers = omega arith in
-    let all = have_heard c.loop.self c.call_branches.new.self c.loop.thread c.call_branches.new.thread (length c.loop.thread.branches.numbers) done le in
-    let number = c.run.ensures.number ∙ c.join.ensures.number ∙ c.call_branches.ensures.number ∙ i.number in
-    let there = i.number in
+    let r = (goal.at.serve_forks-returns-in_default g t c).After-run in
     record {
-      loaded = subst (λ (x : CodeParts). Loaded (plain_code x) c.run.new.self) code c.run.ensures.loaded;
-      number = number;
+      loaded = loaded g t r;
+      number = number g t r;
       reply = replied_by c.run.new.self c.run.result c.run.ensures.left c.in_default.not-Fork;
-      leaves = leaves_then c.args.thread.now.number c.loop.thread.number c.args.self.now c.loop.self c.call_branches.new.self (omega (arith, there)) i.leaves done.leaves;
+      leaves = leaves g t r;
       done = λ book jobs job w.
-          stays c.args.self.now c.call_branches.new.self c.args.thread.now c.run.new.self number (c.loop.forks + 1) book jobs job w
-          (going_on c.args.self.now c.join.new.thread c.run.new.self c.run.ensures.number stands c.args.thread.now c.call_branches.new.self (c.loop.forks + 1) book jobs job w
-          (goes_on c.args.self.now c.loop.self c.args.thread.now c.loop.thread i.number c.loop.forks book jobs job w (i.at book jobs job w)
-          c.requires.fitted i.leaves i.loaded i.fork i.branches c.call_branches.new.self c.call_branches.new.thread c.join.new.thread done c.call_branches.ensures.number c.join.ensures.number
-          (λ xs st. c.join.ensures.stands done.replies xs (subst (λ l. BranchesHaveReplies c.call_branches.new.self l done.replies) (sym c.call_branches.ensures.branches) all) st)))
-          same;
+          stays c.args.self.now c.call_branches.new.self c.args.thread.now c.run.new.self (number g t r) (c.loop.forks + 1) book jobs job w (at_work g t r book jobs job w) (same_code g t r);
     }
 
 -- ---- finish

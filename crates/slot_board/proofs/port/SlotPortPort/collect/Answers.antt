@@ -1,45 +1,28 @@
-use Rattle.std.proofs.Common.{arith, ◌<◌, ◌^◌, length, Some, None, sym, ap, ◌∙◌, subst, length-set}
+use Rattle.std.proofs.Common.{arith, None, sym, subst}
 use Rattle.std.proofs.lemmas.Option.{IfSome_then}
 use Rattle.copy_slots.specs.declared.view.PacketAt.TheVariants.{Out}
-use Rattle.slot_board.specs.declared.seats.EndSeats.{EndSeats}
-use Rattle.copy_slots.specs.SeatEnds.{IsBoard}
-use Rattle.copy_slots.specs.Ports.{IsParent, sender_in, sender_seen, in_plain, sent_by}
-use Rattle.slot_board.specs.Slots.{pair_ends, sender_of}
-use Rattle.copy_slots.proofs.Seating.{at_index}
-use Rattle.slot_board.proofs.Pairing.{both_of, parent_inside, parent_is, parent_state, repairs, parent_repaired}
+use Rattle.copy_slots.specs.Ports.{in_plain, sender_seen, sent_by}
+use Rattle.slot_board.proofs.SeatLemmas.{parent_near, parent_board, parent_found, parent_sits, parent_has, parent_says, parent_fields, parent_after}
 use Rattle.slot_board.proofs.port.SlotPortPort.collect.Goals as goal
 
 pub index_mut-requires : goal.index_mut-requires
-index_mut-requires g c = let h = parent_inside both_of pair_ends c.args.self.now.seats.items c.args.k Out c.requires in omega (arith, h)
+index_mut-requires g c = let h = parent_near c.args.self.now c.args.k Out c.requires in omega (arith, h)
 
 pub unreachable-requires : goal.unreachable-requires
-unreachable-requires g c = let s = c.args.self.now in let a = c.index_mut.result.now in let at = at_index s.seats.items c.args.k a (parent_inside both_of pair_ends c.args.self.now.seats.items c.args.k Out c.requires) c.index_mut.ensures.value in
-    subst (λ z. IsParent (sender_of z) Out) c.in_default.is (subst (λ z. IsParent z Out) (parent_is both_of pair_ends s.seats.items c.args.k a at) c.requires)
+unreachable-requires g c = parent_found c.args.self.now c.args.k Out c.requires c.index_mut.result.now c.index_mut.ensures.value None c.in_default.is
 
 pub collect-requires-clause-board : goal.collect-requires-clause-board
-collect-requires-clause-board g c = let s = c.args.self.now in (length s.seats.items, s.sized.1, parent_inside both_of pair_ends c.args.self.now.seats.items c.args.k Out c.requires)
+collect-requires-clause-board g c = parent_board c.args.self.now c.args.k Out c.requires
 
 pub collect-requires-clause-seat : goal.collect-requires-clause-seat
-collect-requires-clause-seat g c = let s = c.args.self.now in let a = c.index_mut.result.now in let at = at_index s.seats.items c.args.k a (parent_inside both_of pair_ends c.args.self.now.seats.items c.args.k Out c.requires) c.index_mut.ensures.value in
-    let seat = c.in-Some.seat in let sits = (s.pairs c.args.k a at).of_parent seat c.in-Some.is in let x = sender_in seat.me.0.role in
-    (s.watch.me.0.blanks, x, None, subst (λ z. IsParent (sender_of z) Out) c.in-Some.is (subst (λ z. IsParent z Out) (parent_is both_of pair_ends s.seats.items c.args.k a at) c.requires), sits)
+collect-requires-clause-seat g c = parent_has c.args.self.now c.args.k Out c.requires c.index_mut.result.now c.index_mut.ensures.value c.in-Some.seat c.in-Some.is
 
 pub invariant_of-self : goal.invariant_of-self
-invariant_of-self g c = let s = c.args.self.now in let a = c.index_mut.result.now in let at = at_index s.seats.items c.args.k a (parent_inside both_of pair_ends c.args.self.now.seats.items c.args.k Out c.requires) c.index_mut.ensures.value in
-    let seat = c.in-Some.seat in let sits = (s.pairs c.args.k a at).of_parent seat c.in-Some.is in let x = sender_in seat.me.0.role in
-    let b : EndSeats g.row.W.Denot g.row.W-Packet.Denot g.row.W-Plain.Denot = record { parent = Some c.collect.new.seat; child = a.child } in
-    record {
-      sized = subst (λ n. (n < 2 ^ 32) × IsBoard s.top.now.shared.table_id n) (sym (length-set s.seats.items c.args.k b)) s.sized;
-      watches = s.watches;
-      pairs = repairs s.top.now.shared.table_id s.top.now.shared.key.work.value s.watch.me.0.blanks s.seats.items c.args.k b s.pairs (parent_repaired s.top.now.shared.table_id s.top.now.shared.key.work.value s.watch.me.0.blanks c.args.k a c.collect.new.seat (sender_seen (in_plain g.W.Work.plain c.collect.result) x) (s.pairs c.args.k a at) (c.collect.ensures.seat s.watch.me.0.blanks x None sits));
-    }
+invariant_of-self g c = parent_fields c.args.self.now c.args.k Out c.requires c.index_mut.result.now c.index_mut.ensures.value c.in-Some.seat c.in-Some.is c.collect.new.seat (sender_seen (in_plain g.W.Work.plain c.collect.result)) c.collect.ensures.seat
 
 pub returns-clause-state : goal.returns-clause-state
-returns-clause-state g c = let s = c.args.self.now in let a = c.index_mut.result.now in let at = at_index s.seats.items c.args.k a (parent_inside both_of pair_ends c.args.self.now.seats.items c.args.k Out c.requires) c.index_mut.ensures.value in
-    let seat = c.in-Some.seat in let sits = (s.pairs c.args.k a at).of_parent seat c.in-Some.is in let x = sender_in seat.me.0.role in
-    parent_state s.top.now.shared.key.work.value s.watch.me.0.blanks s.watch.me.0.role s.top.now.shared.table_id s.seats.items c.args.k a seat c.collect.new.seat (sender_seen (in_plain g.W.Work.plain c.collect.result)) at c.in-Some.is (c.collect.ensures.seat s.watch.me.0.blanks x None sits)
+returns-clause-state g c = parent_after c.args.self.now c.args.k Out c.requires c.index_mut.result.now c.index_mut.ensures.value c.in-Some.seat c.in-Some.is c.collect.new.seat (sender_seen (in_plain g.W.Work.plain c.collect.result)) c.collect.ensures.seat
 
 pub returns-clause-reply : goal.returns-clause-reply
-returns-clause-reply g c = let s = c.args.self.now in let a = c.index_mut.result.now in let at = at_index s.seats.items c.args.k a (parent_inside both_of pair_ends c.args.self.now.seats.items c.args.k Out c.requires) c.index_mut.ensures.value in
-    let seat = c.in-Some.seat in let sits = (s.pairs c.args.k a at).of_parent seat c.in-Some.is in let x = sender_in seat.me.0.role in
-    IfSome_then c.collect.result c.collect.ensures.reply (λ r h. subst (λ z. g.W.Work.answers s.top.now.shared.key.work.value c.args.k (sent_by z) (g.W.Work.plain r)) (sym (parent_is both_of pair_ends s.seats.items c.args.k a at ∙ ap sender_of c.in-Some.is)) (h s.watch.me.0.blanks x None sits))
+returns-clause-reply g c = IfSome_then c.collect.result c.collect.ensures.reply (λ r h. subst (λ z. g.W.Work.answers c.args.self.now.top.now.shared.key.work.value c.args.k (sent_by z) (g.W.Work.plain r))
+    (sym (parent_says c.args.self.now c.args.k Out c.requires c.index_mut.result.now c.index_mut.ensures.value c.in-Some.seat c.in-Some.is)) (h c.args.self.now.watch.me.0.blanks _ None (parent_sits c.args.self.now c.args.k Out c.requires c.index_mut.result.now c.index_mut.ensures.value c.in-Some.seat c.in-Some.is)))

@@ -1,40 +1,23 @@
-use Rattle.std.proofs.Common.{arith, ◌<◌, ◌^◌, ◌++◌, ◌∷◌, [], length, Some, None, sym, ap, ◌∙◌, subst, length-set}
+use Rattle.std.proofs.Common.{arith, None}
 use Rattle.copy_slots.specs.declared.view.PacketAt.TheVariants.{Held}
-use Rattle.slot_board.specs.declared.seats.EndSeats.{EndSeats}
 use Rattle.copy_slots.specs.Mail.{sender_sent}
-use Rattle.copy_slots.specs.SeatEnds.{IsBoard}
-use Rattle.copy_slots.specs.Ports.{IsParent, sender_in, sent_by}
-use Rattle.slot_board.specs.Slots.{pair_ends, sender_of}
-use Rattle.copy_slots.proofs.Seating.{at_index}
-use Rattle.slot_board.proofs.Pairing.{both_of, parent_inside, parent_is, parent_state, repairs, parent_repaired}
+use Rattle.slot_board.proofs.SeatLemmas.{parent_near, parent_board, parent_found, parent_can, parent_fields, parent_after}
 use Rattle.slot_board.proofs.port.SlotPortPort.offer.Goals as goal
 
 pub index_mut-requires : goal.index_mut-requires
-index_mut-requires g c = let h = parent_inside both_of pair_ends c.args.self.now.seats.items c.args.k Held c.requires.held in omega (arith, h)
+index_mut-requires g c = let h = parent_near c.args.self.now c.args.k Held c.requires.held in omega (arith, h)
 
 pub unreachable-requires : goal.unreachable-requires
-unreachable-requires g c = let s = c.args.self.now in let a = c.index_mut.result.now in let at = at_index s.seats.items c.args.k a (parent_inside both_of pair_ends c.args.self.now.seats.items c.args.k Held c.requires.held) c.index_mut.ensures.value in
-    subst (λ z. IsParent (sender_of z) Held) c.in_default.is (subst (λ z. IsParent z Held) (parent_is both_of pair_ends s.seats.items c.args.k a at) c.requires.held)
+unreachable-requires g c = parent_found c.args.self.now c.args.k Held c.requires.held c.index_mut.result.now c.index_mut.ensures.value None c.in_default.is
 
 pub offer-requires-clause-board : goal.offer-requires-clause-board
-offer-requires-clause-board g c = let s = c.args.self.now in (length s.seats.items, s.sized.1, parent_inside both_of pair_ends c.args.self.now.seats.items c.args.k Held c.requires.held)
+offer-requires-clause-board g c = parent_board c.args.self.now c.args.k Held c.requires.held
 
 pub offer-requires-clause-seat : goal.offer-requires-clause-seat
-offer-requires-clause-seat g c = let s = c.args.self.now in let a = c.index_mut.result.now in let at = at_index s.seats.items c.args.k a (parent_inside both_of pair_ends c.args.self.now.seats.items c.args.k Held c.requires.held) c.index_mut.ensures.value in
-    let seat = c.in-Some.seat in let sits = (s.pairs c.args.k a at).of_parent seat c.in-Some.is in let x = sender_in seat.me.0.role in
-    (s.watch.me.0.blanks, x, None, subst (λ z. IsParent (sender_of z) Held) c.in-Some.is (subst (λ z. IsParent z Held) (parent_is both_of pair_ends s.seats.items c.args.k a at) c.requires.held), sits, subst (λ z. g.W.Work.asks s.top.now.shared.key.work.value c.args.k (sent_by z ++ g.W.Work.plain c.args.packet ∷ [])) (parent_is both_of pair_ends s.seats.items c.args.k a at ∙ ap sender_of c.in-Some.is) c.requires.asks)
+offer-requires-clause-seat g c = parent_can c.args.self.now c.args.k Held c.requires.held c.index_mut.result.now c.index_mut.ensures.value c.in-Some.seat c.in-Some.is g.W.Work.asks (g.W.Work.plain c.args.packet) c.requires.asks
 
 pub invariant_of-self : goal.invariant_of-self
-invariant_of-self g c = let s = c.args.self.now in let a = c.index_mut.result.now in let at = at_index s.seats.items c.args.k a (parent_inside both_of pair_ends c.args.self.now.seats.items c.args.k Held c.requires.held) c.index_mut.ensures.value in
-    let seat = c.in-Some.seat in let sits = (s.pairs c.args.k a at).of_parent seat c.in-Some.is in let x = sender_in seat.me.0.role in
-    let b : EndSeats g.row.W.Denot g.row.W-Packet.Denot g.row.W-Plain.Denot = record { parent = Some c.offer.new.seat; child = a.child } in
-    record {
-      sized = subst (λ n. (n < 2 ^ 32) × IsBoard s.top.now.shared.table_id n) (sym (length-set s.seats.items c.args.k b)) s.sized;
-      watches = s.watches;
-      pairs = repairs s.top.now.shared.table_id s.top.now.shared.key.work.value s.watch.me.0.blanks s.seats.items c.args.k b s.pairs (parent_repaired s.top.now.shared.table_id s.top.now.shared.key.work.value s.watch.me.0.blanks c.args.k a c.offer.new.seat (sender_sent (g.W.Work.plain c.args.packet) x) (s.pairs c.args.k a at) (c.offer.ensures s.watch.me.0.blanks x None sits));
-    }
+invariant_of-self g c = parent_fields c.args.self.now c.args.k Held c.requires.held c.index_mut.result.now c.index_mut.ensures.value c.in-Some.seat c.in-Some.is c.offer.new.seat (sender_sent (g.W.Work.plain c.args.packet)) c.offer.ensures
 
 pub returns : goal.returns
-returns g c = let s = c.args.self.now in let a = c.index_mut.result.now in let at = at_index s.seats.items c.args.k a (parent_inside both_of pair_ends c.args.self.now.seats.items c.args.k Held c.requires.held) c.index_mut.ensures.value in
-    let seat = c.in-Some.seat in let sits = (s.pairs c.args.k a at).of_parent seat c.in-Some.is in let x = sender_in seat.me.0.role in
-    parent_state s.top.now.shared.key.work.value s.watch.me.0.blanks s.watch.me.0.role s.top.now.shared.table_id s.seats.items c.args.k a seat c.offer.new.seat (sender_sent (g.W.Work.plain c.args.packet)) at c.in-Some.is (c.offer.ensures s.watch.me.0.blanks x None sits)
+returns g c = parent_after c.args.self.now c.args.k Held c.requires.held c.index_mut.result.now c.index_mut.ensures.value c.in-Some.seat c.in-Some.is c.offer.new.seat (sender_sent (g.W.Work.plain c.args.packet)) c.offer.ensures

@@ -2,12 +2,12 @@ use Rattle.std.proofs.Common.{map, sym, ap, ◌∙◌, subst}
 use Rattle.copy_slots.specs.Mail.{role_stopped}
 use Rattle.copy_slots.specs.SeatEnds.{Watches}
 use Rattle.slot_board.specs.Slots.{AllPairs, slot_state, is_watch}
-use Rattle.copy_slots.proofs.Seating.{rewatches}
-use Rattle.slot_board.proofs.Pairing.{both_of, watch_stopped, stopped_state, root_kept}
+use Rattle.copy_slots.proofs.Seating.{keeper_is, rewatches}
+use Rattle.slot_board.proofs.Pairing.{both_of, watch_stopped, stopped_state}
 use Rattle.slot_board.proofs.port.SlotPortPort.stop.Goals as goal
 
 pub stop-requires-clause-seat : goal.stop-requires-clause-seat
-stop-requires-clause-seat g c = let s = c.args.self.now in let k = root_kept s.watch.me.0.role c.requires in
+stop-requires-clause-seat g c = let s = c.args.self.now in let k = keeper_is s.watch.me.0.role c.requires in
     (s.watch.me.0.blanks, k.0, k.1, k.2, subst (λ r. Watches s.top.now.shared.table_id s.top.now.shared.key.work.value s.watch.me.0.blanks r s.watch) k.3 s.watches.0)
 
 pub invariant_of-self : goal.invariant_of-self

@@ -3,8 +3,8 @@ use Rattle.copy_slots.specs.Mail.{role_checked}
 use Rattle.copy_slots.specs.SeatEnds.{Watches}
 use Rattle.copy_slots.specs.Ports.{stored_of, stop_word}
 use Rattle.slot_board.specs.Slots.{AllPairs, slot_state, is_watch}
-use Rattle.copy_slots.proofs.Seating.{rewatches}
-use Rattle.slot_board.proofs.Pairing.{both_of, watch_checked, checked_state, root_kept}
+use Rattle.copy_slots.proofs.Seating.{keeper_is, rewatches}
+use Rattle.slot_board.proofs.Pairing.{both_of, watch_checked, checked_state}
 use Rattle.slot_board.proofs.port.SlotPortPort.stopped.Goals as goal
 
 pub invariant_of-self : goal.invariant_of-self
@@ -20,5 +20,5 @@ returns-clause-state g c = let s = c.args.self.now in let z = s.top.now.shared.t
 
 pub returns-clause-stored : goal.returns-clause-stored
 returns-clause-stored g c = let s = c.args.self.now in let bs = s.watch.me.0.blanks in
-    λ root yes. let k = root_kept s.watch.me.0.role root in
+    λ root yes. let k = keeper_is s.watch.me.0.role root in
     ap stored_of k.3 ∙ c.check.ensures.stored bs k.0 k.1 k.2 (subst (λ role. Watches s.top.now.shared.table_id s.top.now.shared.key.work.value bs role s.watch) k.3 s.watches.0) yes

@@ -3,9 +3,9 @@ use Rattle.forec_kernel.specs.Shapes.{PlainShape, plain_shape}
 use Rattle.thread_code.specs.Plain.{plain_code}
 use Rattle.core_host.specs.Hosted.{code_of}
 use Rattle.core_host.specs.Runs.{HostHasRun}
-use Rattle.trace_runs.specs.Formats.{format_for}
-use Rattle.trace_runs.specs.KernelNames.{outputs_of}
-use Rattle.trace_runs.specs.declared.format.Telling.TheVariants as telling
+use Rattle.trace_ticks.specs.Formats.{format_for}
+use Rattle.trace_ticks.specs.KernelNames.{outputs_of}
+use Rattle.trace_ticks.specs.declared.format.Telling.TheVariants as telling
 use Rattle.trace_farm.specs.Kept.{slice_left, report_held}
 use Rattle.trace_farm.proofs.Given.{code_starts, reported}
 use Rattle.trace_farm.proofs.farming.Plan.report.Goals as goal

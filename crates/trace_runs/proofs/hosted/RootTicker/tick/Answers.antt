@@ -1,5 +1,5 @@
 use Rattle.core_host.specs.Runs.{ticking}
-use Rattle.trace_runs.proofs.Following.{code_ticks}
+use Rattle.trace_ticks.proofs.Following.{code_ticks}
 use Rattle.trace_runs.proofs.hosted.RootTicker.tick.Goals as goal
 
 pub returns-clause-tick : goal.returns-clause-tick

@@ -2,7 +2,7 @@ use Rattle.std.proofs.Common.{ap}
 use Rattle.forec_kernel.specs.Shapes.{plain_kernel}
 use Rattle.kernel_meaning.specs.States.{plain_state}
 use Rattle.trace_runs.proofs.Fine.{ok_all}
-use Rattle.trace_runs.proofs.Following.{rewritten_once}
+use Rattle.trace_ticks.proofs.Following.{rewritten_once}
 use Rattle.trace_runs.proofs.rewriter.RewriterTicker.tick.Goals as goal
 
 pub returns-clause-tick : goal.returns-clause-tick

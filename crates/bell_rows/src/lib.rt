@@ -1,7 +1,0 @@
-//! Tests of the ropes of two cores.
-#![tactic(auto)]
-
-#[cfg(test)]
-mod compiled;
-#[cfg(test)]
-mod hinted;

@@ -1,5 +1,0 @@
-use Rattle.core_machine.specs.Depths.{IsMost}
-use Rattle.core_machine.proofs.depths.greatest.Given as goal
-
-abbrev pub invariant-loop-depth : goal.invariant-loop-depth
-invariant-loop-depth l = IsMost l.depths l.depth-index l.most

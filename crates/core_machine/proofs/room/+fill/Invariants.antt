@@ -1,8 +1,0 @@
-use Rattle.std.proofs.Common.{◌≡◌, length}
-use Rattle.core_machine.proofs.room.+fill.Given as goal
-
-abbrev pub decreases-fill : goal.decreases-fill
-decreases-fill l = l.fuel
-
-abbrev pub invariant-loop-step : goal.invariant-loop-step
-invariant-loop-step l = length l.needs.items ≡ length l.initial.needs.items

@@ -1,8 +1,0 @@
-use Rattle.forec_check.specs.Views.{judging_in}
-use Rattle.forec_check.proofs.UseRules.{declared_is}
-use Rattle.forec_check.proofs.rules.declarations.judge_declared.Goals as goal
-
-pub returns : goal.returns
-returns c =
-    declared_is (judging_in c.args.context.now) c.args.name c.args.again c.args.length c.args.values
-    c.args.least.now c.keep_fault.new.least c.judge_length.new.least c.keep_fault-2.new.least c.keep_fault-3.new.least (cc) (cc) (cc) (cc)

@@ -1,6 +1,0 @@
-use Rattle.loop_check.specs.Views.{indexed_text}
-use Rattle.forec_check.proofs.ItemRules.{no_combine}
-use Rattle.forec_check.proofs.rules.items.judge_combine.Goals as goal
-
-pub returns-in-None : goal.returns-in-None
-returns-in-None c = no_combine (indexed_text c.args.index.now) c.args.combine c.args.least.now c.in-None.is

@@ -1,5 +1,0 @@
-use Rattle.forec_parser.proofs.Lists.{par-launched}
-use Rattle.forec_parser.proofs.parts.fork.Goals as goal
-
-pub returns : goal.returns
-returns c = par-launched c.args.branches c.args.place

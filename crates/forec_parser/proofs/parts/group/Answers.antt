@@ -1,5 +1,0 @@
-use Rattle.forec_parser.proofs.Lists.{group-in_order}
-use Rattle.forec_parser.proofs.parts.group.Goals as goal
-
-pub returns : goal.returns
-returns c = group-in_order c.args.block.body c.args.block.place

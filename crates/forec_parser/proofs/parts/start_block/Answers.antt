@@ -1,5 +1,0 @@
-use Rattle.forec_parser.proofs.Lists.{launch-group}
-use Rattle.forec_parser.proofs.parts.start_block.Goals as goal
-
-pub returns : goal.returns
-returns c = launch-group c.args.block.place c.args.block.body

@@ -1,0 +1,5 @@
+pub mod Elements
+pub mod Marks
+pub mod Drafts
+pub mod Reach
+pub mod Measures

@@ -1,7 +1,0 @@
-use Rattle.std.proofs.Common.{◌≡◌, ◌∷◌, map}
-use Rattle.forec_kernel.specs.Plain.{stmt}
-use Rattle.kernel_lower.specs.Drafts.{thread_body}
-use Rattle.kernel_lower.proofs.draft.texts_of.Given as goal
-
-abbrev pub invariant-loop-thread : goal.invariant-loop-thread
-invariant-loop-thread l = map stmt l.list.items ≡ stmt l.fn.bodies.main ∷ map thread_body l.yielded

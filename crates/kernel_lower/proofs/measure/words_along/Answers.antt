@@ -1,4 +1,0 @@
-use Rattle.kernel_lower.proofs.measure.words_along.Goals as goal
-
-pub returns : goal.returns
-returns c = c.in_ok-chains.ensures.words

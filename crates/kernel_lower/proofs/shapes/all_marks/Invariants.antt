@@ -1,5 +1,0 @@
-use Rattle.std.proofs.Common.{ℕ, ◌≡◌, true, length, get_or}
-use Rattle.kernel_lower.proofs.shapes.all_marks.Given as goal
-
-abbrev pub invariant-loop : goal.invariant-loop
-invariant-loop l = (length l.marks.items ≡ l.counter) × ((v : ℕ) → get_or l.marks.items v true ≡ true)

@@ -1,0 +1,9 @@
+pub mod DeclarationLaws
+pub mod UseRules
+pub mod Texts
+pub mod WalkLemmas
+pub mod Parts
+pub mod Statements
+pub mod ScopeLaws
+pub mod WalkBranches
+pub mod ItemRules

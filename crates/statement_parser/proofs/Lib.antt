@@ -1,0 +1,9 @@
+pub mod Lists
+pub mod Marks
+pub mod SimpleRules
+pub mod PartRules
+pub mod StatementSound
+pub mod StatementComplete
+pub mod StatementSteady
+pub mod ViableParts
+pub mod ViableStatements

@@ -1,0 +1,17 @@
+pub mod Advancing
+pub mod AfterHeader
+pub mod Asking
+pub mod EndLemmas
+pub mod Following
+pub mod Heading
+pub mod NextRows
+pub mod OneTelling
+pub mod Picking
+pub mod Printing
+pub mod RunEnds
+pub mod Running
+pub mod Splitting
+pub mod TickLines
+pub mod TickingLemmas
+pub mod Told
+pub mod WorkedLines

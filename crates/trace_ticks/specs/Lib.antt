@@ -1,0 +1,14 @@
+pub mod Ends
+pub mod Following
+pub mod Formats
+pub mod KernelNames
+pub mod Led
+pub mod OneRun
+pub mod Prints
+pub mod Progress
+pub mod Report
+pub mod Sessions
+pub mod StatusNumbers
+pub mod Ticking
+pub mod WaitingRoom
+pub mod Workload
