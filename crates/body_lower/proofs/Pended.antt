@@ -15,13 +15,13 @@ use Rattle.forec_kernel.specs.Terms as kernel
 use Rattle.forec_kernel.specs.Terms.{Stmt}
 use Rattle.text_kernel.specs.declared.names.Slot.{Slot}
 use Rattle.text_kernel.specs.Lowering.{NextNumbers, Lowered, Inlined, as_one, param_names, made_thread, lower_terms, lower_list, lower_branches}
-use Rattle.body_lower.specs.declared.added.Added.{Added}
-use Rattle.body_lower.specs.declared.state.Pending.{Pending}
-use Rattle.body_lower.specs.declared.state.State.{State}
-use Rattle.body_lower.specs.declared.state.Thread.{Thread}
-use Rattle.body_lower.specs.Additions.{BranchesAdd}
-use Rattle.body_lower.specs.Landings.{called_within}
-use Rattle.body_lower.specs.Views.{next_of, Bare, bare, of_thread, made_by, made_of, pending_threads, threads_of, threads_on, Does, DoesBranches, Launches}
+use Rattle.lower_names.specs.declared.added.Added.{Added}
+use Rattle.lower_names.specs.declared.state.Pending.{Pending}
+use Rattle.lower_names.specs.declared.state.State.{State}
+use Rattle.lower_names.specs.declared.state.Thread.{Thread}
+use Rattle.lower_names.specs.Additions.{BranchesAdd}
+use Rattle.lower_names.specs.Landings.{called_within}
+use Rattle.lower_names.specs.Views.{next_of, Bare, bare, of_thread, made_by, made_of, pending_threads, threads_of, threads_on, Does, DoesBranches, Launches}
 
 -- ---- a branch more
 

@@ -1,6 +1,1 @@
-pub mod Additions
 pub mod Assigned
-pub mod Heads
-pub mod Landings
-pub mod Numbering
-pub mod Views

@@ -10,17 +10,15 @@ ghost use Rattle.text_kernel.specs.Bindings as bindings;
 ghost use Rattle.text_kernel.specs.declared.names.Stands.TheVariants as st;
 ghost use Rattle.text_kernel.specs.Lowering as lowering;
 ghost use Rattle.body_lower.specs.Assigned.{IsAssigned, AreSet, AreDeclared};
-ghost use Rattle.body_lower.specs.Views.{seen, AppendsLocals, SeenAfter, Done};
+ghost use Rattle.lower_names.specs.Views.{seen, AppendsLocals, SeenAfter, Done};
 
-use crate::context::Context;
-use crate::globals::Globals;
-use crate::parts::{boxed_term, sequence, sum};
-use crate::scope::Scope;
-use crate::state::State;
-use crate::term::{kernel_number, lower_boxed, lower_term, place_if, stands};
 use forec_base::{OutOfMemory, Place};
 use forec_kernel::{Expression, Spot, Statement};
 use forec_tree::{Expr, Local, Number, OpAt, Target};
+use lower_names::{
+    Context, Globals, Scope, State, boxed_term, kernel_number, lower_boxed, lower_term, place_if,
+    sequence, stands, sum,
+};
 use std::alloc::Global;
 use text_kernel::{Slot, Stands, number_of, slots_of};
 

@@ -9,22 +9,20 @@ ghost use Rattle.forec_tree.specs.Plain as plain;
 ghost use Rattle.forec_tree.specs.Plain.{perhaps_of};
 ghost use Rattle.forec_tree.specs.Terms as tree;
 ghost use Rattle.forec_kernel.specs.Plain as kernel;
-ghost use Rattle.body_lower.specs.Heads.{while_of, for_of, turns_of};
-ghost use Rattle.body_lower.specs.Views.{OneText, context_text, seen, AppendsLocals, Same, SeenAfter, SeenAfterPerhaps, Done, DonePerhaps, DoneList, DoneAsOne};
-ghost use Rattle.body_lower.specs.Views.{DoneIf, DoneAbort, DoneLanded, DoneCall, DoneFunction};
+ghost use Rattle.lower_names.specs.Heads.{while_of, for_of, turns_of};
+ghost use Rattle.lower_names.specs.Views.{OneText, context_text, seen, AppendsLocals, Same, SeenAfter, SeenAfterPerhaps, Done, DonePerhaps, DoneList, DoneAsOne};
+ghost use Rattle.lower_names.specs.Views.{DoneIf, DoneAbort, DoneLanded, DoneCall, DoneFunction};
 
 use crate::assign::{assign, declare, set_params};
 use crate::branches::par;
-use crate::context::Context;
-use crate::heads::{AbortHead, ForHead, WhileHead};
-use crate::landing::innermost;
 use crate::loops::{after_start, bound_of, optional_test, or_inferred, then_step};
-use crate::parts::{boxed, count, sequence, sum};
-use crate::state::State;
-use crate::term::lower_term;
 use forec_base::{OutOfMemory, Place};
 use forec_kernel::Statement;
 use forec_tree::{Expr, Function, Name, Stmt, StmtKind};
+use lower_names::{
+    AbortHead, Context, ForHead, State, WhileHead, boxed, count, innermost, lower_term, sequence,
+    sum,
+};
 
 /// How many levels of the kernel may nest in a body. Past it there is no memory: each
 /// takes up to 5 KB of stack, so the caller has 64 MB of it.

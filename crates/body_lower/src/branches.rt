@@ -4,15 +4,12 @@ ghost use Rattle.std.specs.Prelude.{◌∷◌, [], map, IfOk, OnOk};
 ghost use Rattle.forec_tree.specs.Plain as plain;
 ghost use Rattle.forec_tree.specs.Terms as tree;
 ghost use Rattle.forec_kernel.specs.Plain as kernel;
-ghost use Rattle.body_lower.specs.Views.{OneText, context_text, seen, Same, Done, DoneBranches, Launches};
+ghost use Rattle.lower_names.specs.Views.{OneText, context_text, seen, Same, Done, DoneBranches, Launches};
 
-use crate::context::Context;
-use crate::parts::sum;
-use crate::state::{Pending, State};
-use crate::term::lower_terms;
 use forec_base::{OutOfMemory, Place};
 use forec_kernel::{Expression, Launch, Statement};
 use forec_tree::Branch;
+use lower_names::{Context, Pending, State, lower_terms, sum};
 
 /// The arguments of a branch.
 fn arguments(

@@ -5,15 +5,12 @@ ghost use Rattle.forec_tree.specs.Plain as plain;
 ghost use Rattle.forec_tree.specs.Plain.{perhaps_of};
 ghost use Rattle.forec_kernel.specs.Plain as kernel;
 ghost use Rattle.text_kernel.specs.Lowering as lowering;
-ghost use Rattle.body_lower.specs.Views.{IsTest};
+ghost use Rattle.lower_names.specs.Views.{IsTest};
 
-use crate::context::Context;
-use crate::parts::{both, boxed, boxed_term};
-use crate::state::State;
-use crate::term::lower_boxed;
 use forec_base::OutOfMemory;
 use forec_kernel::{Expression, Statement};
 use forec_tree::{Expr, Number, Stmt};
+use lower_names::{Context, State, both, boxed, boxed_term, lower_boxed};
 use std::alloc::Global;
 use text_kernel::number_of;
 

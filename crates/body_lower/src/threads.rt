@@ -9,16 +9,13 @@ ghost use Rattle.forec_tree.specs.Terms.{Text};
 ghost use Rattle.forec_kernel.specs.Plain as kernel;
 ghost use Rattle.loop_check.specs.Views.{indexed_text};
 ghost use Rattle.text_kernel.specs.Lowering as lowering;
-ghost use Rattle.body_lower.specs.Views.{OneText, Same, DoneAsOne, of_thread, IsMade, IsMadeBy, pending_threads, threads_of, threads_on};
+ghost use Rattle.lower_names.specs.Views.{OneText, Same, DoneAsOne, of_thread, IsMade, IsMadeBy, pending_threads, threads_of, threads_on};
 
 use crate::body::{FUEL, inlined, list};
-use crate::context::Context;
-use crate::parts::{count, sequence, sum};
-use crate::source::Source;
-use crate::state::{Pending, State, Thread};
 use forec_base::OutOfMemory;
 use forec_kernel::Statement;
 use forec_tree::{Branch, Expr, Name, Stmt};
+use lower_names::{Context, Pending, Source, State, Thread, count, sequence, sum};
 use std::alloc::Global;
 
 /// How many parameters the function of a name has.

@@ -13,19 +13,19 @@ use Rattle.forec_kernel.specs.declared.shape.ThreadShape.{ThreadShape}
 use Rattle.forec_kernel.specs.Shapes.{PlainThread, plain_thread}
 use Rattle.std.specs.declared.vec.Vec.{Vec}
 use Rattle.std.specs.declared.alloc.Global.{Global as Alloc}
-use Rattle.body_lower.specs.declared.state.State.{State}
-use Rattle.body_lower.specs.declared.state.Thread.{Thread}
+use Rattle.lower_names.specs.declared.state.State.{State}
+use Rattle.lower_names.specs.declared.state.Thread.{Thread}
 use Rattle.text_kernel.specs.Bindings.{first_value}
 use Rattle.text_kernel.specs.Lowering.{NextNumbers, as_one, inlined_body}
 use Rattle.text_kernel.specs.Kernels.{padded, lowered_function_body}
-use Rattle.body_lower.specs.Landings.{called_within}
-use Rattle.body_lower.specs.Views.{Bare, bare, of_thread, next_of, pending_threads, threads_of, Does}
+use Rattle.lower_names.specs.Landings.{called_within}
+use Rattle.lower_names.specs.Views.{Bare, bare, of_thread, next_of, pending_threads, threads_of, Does}
 use Rattle.kernel_drafts.specs.declared.expand.Bodies.{Bodies}
 use Rattle.kernel_drafts.specs.Drafts.{bare_shapes, named_at, part_at, marked_from, Expanded}
 use Rattle.text_kernel.specs.Items.{globals_of}
 use Rattle.kernel_drafts.specs.Marks.{row_uses, shape_uses, with_uses, MarksOf}
 use Rattle.kernel_drafts.proofs.DraftLemmas.{marks_uses}
-use Rattle.body_lower.proofs.Statements.{drop_next}
+use Rattle.lower_names.proofs.Statements.{drop_next}
 
 -- ---- int functions
 

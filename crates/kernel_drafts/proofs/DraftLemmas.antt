@@ -6,10 +6,10 @@ use Rattle.forec_tree.specs.Faults.{is_in}
 use Rattle.forec_kernel.specs.Plain.{stmt}
 use Rattle.forec_kernel.specs.Shapes.{PlainThread}
 use Rattle.forec_kernel.specs.WellFormed.{count_up}
-use Rattle.body_lower.specs.declared.state.Thread.{Thread}
+use Rattle.lower_names.specs.declared.state.Thread.{Thread}
 use Rattle.text_kernel.specs.Lowering.{Made, vars_of, vars_made}
 use Rattle.text_kernel.specs.Kernels.{filter_in, thread_shape, variable_count}
-use Rattle.body_lower.specs.Views.{Bare, bare, of_thread}
+use Rattle.lower_names.specs.Views.{Bare, bare, of_thread}
 use Rattle.kernel_drafts.specs.Drafts.{vars_bare, named_at, optional_name_bytes, bare_shape, bare_shapes, marked_from}
 use Rattle.kernel_drafts.specs.Marks.{is_marked, MarksOf}
 use Rattle.text_kernel.proofs.Forks.{at}

@@ -13,7 +13,7 @@ use Rattle.text_kernel.specs.Bindings.{number_of}
 use Rattle.text_kernel.specs.Lowering.{Lowered}
 use Rattle.text_kernel.specs.Kernels.{kernel_of, root, main_id, variable_count, variable_shape, int_functions, tables_of, table_of, padded, thread_shape, root_shape}
 use Rattle.text_kernel.specs.Kernels as kernels
-use Rattle.body_lower.specs.Views.{Bare, bare}
+use Rattle.lower_names.specs.Views.{Bare, bare}
 use Rattle.kernel_drafts.specs.Drafts.{root_of, main_shape, bare_shapes, function_text, function_shape}
 use Rattle.text_kernel.specs.Items.{array_items, array_in, array_table, option_list}
 use Rattle.text_kernel.proofs.Placed.{root_grown}

@@ -6,7 +6,7 @@ use Rattle.forec_tree.specs.Variables.{elements_from}
 use Rattle.text_kernel.specs.Bindings.{first_value, nth_value}
 use Rattle.kernel_drafts.specs.declared.elements.Element.{Element}
 use Rattle.kernel_drafts.specs.Elements.{plain_element, plain_elements}
-use Rattle.body_lower.proofs.Statements.{drop_next}
+use Rattle.lower_names.proofs.Statements.{drop_next}
 
 pub elements_next : (list : List Element) (i : ℕ) (x : Element) → i < length list → get_or list i x ≡ x → plain_elements (drop i list) ≡ plain_element x ∷ plain_elements (drop (i + 1) list)
 elements_next list i x l e = ap plain_elements (drop_next list i x l e)

@@ -9,10 +9,10 @@ use Rattle.forec_kernel.specs.WellFormed.{count_up}
 use Rattle.forec_kernel.specs.declared.terms.Statement.{Statement}
 use Rattle.forec_kernel.specs.declared.shape.FunctionShape.{FunctionShape}
 use Rattle.kernel_drafts.specs.declared.expand.Bodies.{Bodies}
-use Rattle.body_lower.specs.declared.state.Thread.{Thread}
+use Rattle.lower_names.specs.declared.state.Thread.{Thread}
 use Rattle.text_kernel.specs.Lowering.{Lowered, sequence, vars_of, inlined}
 use Rattle.text_kernel.specs.Kernels.{lowered_function_body, filter_in}
-use Rattle.body_lower.specs.Views.{Bare, bare, of_thread}
+use Rattle.lower_names.specs.Views.{Bare, bare, of_thread}
 
 abbrev pub function_shape : Text → List (List ℕ) → PlainFunction → FunctionShape
 function_shape text names f = record { params = length f.params; words = (lowered_function_body text names f).next.slot }

@@ -5,7 +5,7 @@ use Rattle.std.specs.declared.alloc.Global.{Global}
 use Rattle.forec_tree.specs.Faults.{is_in}
 use Rattle.forec_kernel.specs.Shapes.{PlainThread}
 use Rattle.forec_kernel.specs.declared.shape.ThreadShape.{ThreadShape}
-use Rattle.body_lower.specs.Views.{Bare}
+use Rattle.lower_names.specs.Views.{Bare}
 use Rattle.kernel_drafts.specs.Drafts.{optional_name_bytes, marked_from}
 
 abbrev pub is_marked : List Bool → ℕ → Bool

@@ -6,7 +6,7 @@ ghost use Rattle.forec_kernel.specs.Plain as kernel;
 ghost use Rattle.forec_kernel.specs.Shapes.{plain_kernel};
 ghost use Rattle.loop_check.specs.Views.{indexed_text};
 ghost use Rattle.text_kernel.specs.Kernels.{kernel_of, main_id};
-ghost use Rattle.body_lower.specs.Views.{OneText};
+ghost use Rattle.lower_names.specs.Views.{OneText};
 ghost use Rattle.kernel_drafts.specs.Drafts.{thread_body};
 ghost use Rattle.text_kernel.specs.Items.{globals_of, functions_of, array_items, array_table};
 ghost use Rattle.kernel_drafts.specs.Reach.{table_items};
@@ -20,10 +20,10 @@ use crate::globals::{inputs, outputs, shapes, variables};
 use crate::measure::Draft;
 use crate::shapes::threads_of;
 use crate::tables::tables;
-use body_lower::{Source, count};
 use forec_base::{Labels, OutOfMemory};
 use forec_kernel::{KernelParts, Shape, Statement};
 use forec_tree::{Global as Declared, Item};
+use lower_names::{Source, count};
 use std::alloc::Global;
 
 /// The bodies of all threads, in the order of their numbers.

@@ -8,10 +8,10 @@ ghost use Rattle.text_kernel.specs.Kernels as kernels;
 ghost use Rattle.kernel_drafts.specs.Elements.{plain_element, plain_elements};
 
 use crate::tables::number_at;
-use body_lower::first_value;
 use forec_base::{Labels, OutOfMemory};
 use forec_tree::Global as Declared;
 use itoa::Buffer;
+use lower_names::first_value;
 use std::alloc::Global;
 
 /// A variable of a program: a global, or with an index an element of a shared array.

@@ -2,12 +2,13 @@
 
 ghost use Rattle.std.specs.Prelude.{◌≡◌, length, IfOk};
 ghost use Rattle.loop_check.specs.Views.{indexed_text};
-ghost use Rattle.body_lower.specs.Views.{OneText};
+ghost use Rattle.lower_names.specs.Views.{OneText};
 ghost use Rattle.kernel_drafts.specs.Drafts.{Expanded};
 
-use body_lower::{Context, FUEL, Source, State, Thread, inlined, threads_below};
+use body_lower::{FUEL, inlined, threads_below};
 use forec_base::OutOfMemory;
 use forec_kernel::Statement;
+use lower_names::{Context, Source, State, Thread};
 use std::alloc::Global;
 
 /// The body of thread 0, how many words it has, and the threads below it, in the order of their numbers.

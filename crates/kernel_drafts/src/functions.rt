@@ -6,14 +6,15 @@ ghost use Rattle.forec_kernel.specs.Plain as kernel;
 ghost use Rattle.loop_check.specs.Views.{indexed_text};
 ghost use Rattle.text_kernel.specs.Kernels as kernels;
 ghost use Rattle.text_kernel.specs.Lowering as lowering;
-ghost use Rattle.body_lower.specs.Views.{OneText};
+ghost use Rattle.lower_names.specs.Views.{OneText};
 ghost use Rattle.text_kernel.specs.Items.{functions_of, IsIntFunctionOf};
 ghost use Rattle.kernel_drafts.specs.Drafts.{AreBodies, function_shape, function_text};
 
-use body_lower::{Context, FUEL, Globals, Source, State, count, in_function};
+use body_lower::{FUEL, in_function};
 use forec_base::{Labels, OutOfMemory};
 use forec_kernel::{FunctionShape, Statement};
 use forec_tree::{Function, Item};
+use lower_names::{Context, Globals, Source, State, count};
 use std::alloc::Global;
 
 /// The int function that an item is.

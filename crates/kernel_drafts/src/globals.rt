@@ -10,10 +10,10 @@ ghost use Rattle.text_kernel.specs.Items.{globals_of, variable_items, IsVariable
 ghost use Rattle.kernel_drafts.specs.Elements.{plain_element, plain_elements};
 
 use crate::elements::{Element, start_of};
-use body_lower::{Globals, is_constant, sum};
 use forec_base::{Labels, OutOfMemory, Policy};
 use forec_kernel::Variable;
 use forec_tree::{Combine, Global as Declared, GlobalKind, Item};
+use lower_names::{Globals, is_constant, sum};
 use std::alloc::Global;
 use text_sizes::add;
 

@@ -3,15 +3,15 @@
 ghost use Rattle.std.specs.Prelude.{◌≡◌, ◌<◌, ◌-◌, ◌∷◌, min, max, ◌++◌, [], ℕ, Option, None, Some, Bool, true, map, length, slice_index_or, IfOk, OnOk};
 ghost use Rattle.forec_kernel.specs.Shapes.{plain_thread, plain_name};
 ghost use Rattle.forec_tree.specs.Rules.{spelling_of_name};
-ghost use Rattle.body_lower.specs.Views.{of_thread};
+ghost use Rattle.lower_names.specs.Views.{of_thread};
 ghost use Rattle.kernel_drafts.specs.Drafts.{vars_bare, named_from, optional_name_bytes, bare_shapes, main_shape, marked_from};
 ghost use Rattle.kernel_drafts.specs.Marks.{MarksOf, row_uses, shape_uses, with_uses};
 
 use crate::expand::Bodies;
 use crate::marks::mark_statement;
-use body_lower::Thread;
 use forec_base::{Labels, OutOfMemory};
 use forec_kernel::ThreadShape;
+use lower_names::Thread;
 use std::alloc::Global;
 
 /// No mark of so many variables.

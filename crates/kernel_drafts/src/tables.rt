@@ -7,9 +7,9 @@ ghost use Rattle.text_kernel.specs.Kernels.{padded};
 ghost use Rattle.text_kernel.specs.Items.{globals_of, array_items, array_length, array_table, IsArrayOf};
 ghost use Rattle.kernel_drafts.specs.Reach.{table_items};
 
-use body_lower::{first_number, is_constant};
 use forec_base::OutOfMemory;
 use forec_tree::{Global as Declared, Item, Number};
+use lower_names::{first_number, is_constant};
 use std::alloc::Global;
 use text_kernel::number_of;
 use text_sizes::add;

@@ -13,15 +13,15 @@ ghost use Rattle.text_kernel.specs.Limits as limits;
 ghost use Rattle.text_kernel.specs.declared.limits.Quantity.TheVariants as quantity;
 ghost use Rattle.kernel_drafts.specs.Measures.{CallsLow, HasWords};
 ghost use Rattle.kernel_lower.specs.Refusals.{HasLowerCause};
-ghost use Rattle.body_lower.specs.Views.{OneText};
+ghost use Rattle.lower_names.specs.Views.{OneText};
 
 use crate::judge::{Amounts, judge, within};
 use crate::lower_fault::LowerFault;
-use body_lower::Source;
 use forec_base::{Labels, MAX_DEPTH, MAX_GLOBALS, MAX_TERMS, OutOfMemory};
 use forec_tree::{Function, Item};
 use kernel_drafts::{Draft, arrays, lowered_functions, table_words, variables, words_along};
 use loop_check::Index;
+use lower_names::Source;
 use std::alloc::Global;
 use text_chains::most_words;
 use text_kernel::Quantity;

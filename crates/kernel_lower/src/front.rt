@@ -12,13 +12,13 @@ ghost use Rattle.kernel_lower.specs.Refusals.{HasLowerCause};
 use crate::beyond::{Outlook, beyond, foresee};
 use crate::judge::{Amounts, judge, within};
 use crate::lower_fault::LowerFault;
-use body_lower::Source;
 use forec_base::{Labels, MAX_DEPTH, MAX_GLOBALS, MAX_TERMS, OutOfMemory};
 use forec_check::Checked;
 use forec_kernel::{Kernel, KernelParts};
 use kernel_drafts::{
     arrays, complete, draft, int_functions, most, table_words, variable_total, variables,
 };
+use lower_names::Source;
 use std::alloc::Global;
 use text_kernel::Quantity;
 use text_sizes::program_terms;

@@ -18,10 +18,10 @@ ghost use Rattle.text_chains.specs.Views.{value_by, SettlesTallies, HasTallies};
 use crate::bodies::all;
 use crate::tally::{Tally, Weights, known_of, nothing, started, value};
 use crate::terms::hides_params;
-use body_lower::Globals;
 use forec_base::{Labels, OutOfMemory};
 use forec_tree::Global as Declared;
 use loop_check::{find_function, order, put, read_calls};
+use lower_names::Globals;
 use std::alloc::Global;
 
 /// What the text of the function of a number brings.

@@ -4,8 +4,8 @@ ghost use Rattle.std.specs.Prelude.{◌≡◌};
 ghost use Rattle.text_chains.specs.Tallies as of;
 ghost use Rattle.text_chains.specs.Views.{value_by};
 
-use body_lower::Globals;
 use loop_check::value_at;
+use lower_names::Globals;
 use text_sizes::add;
 
 /// What a text brings: whether it, or a thread below it, names a variable; the most words of an int

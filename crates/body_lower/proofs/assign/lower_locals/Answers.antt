@@ -4,8 +4,8 @@ use Rattle.forec_tree.specs.Plain.{declared}
 use Rattle.loop_check.specs.Views.{indexed_text}
 use Rattle.text_kernel.specs.declared.names.Slot.{Slot}
 use Rattle.text_kernel.specs.Bindings.{local_slot, slots_of}
-use Rattle.body_lower.specs.Views.{seen}
-use Rattle.body_lower.proofs.Statements.{drop_next, locals_list, locals_slot, locals_seen, locals_end, kept_then}
+use Rattle.lower_names.specs.Views.{seen}
+use Rattle.lower_names.proofs.Statements.{drop_next, locals_list, locals_slot, locals_seen, locals_end, kept_then}
 use Rattle.body_lower.proofs.assign.lower_locals.Goals as goal
 
 abbrev slot_of : Local → ℕ → Option ℕ → Slot

@@ -4,7 +4,7 @@ use Rattle.forec_kernel.specs.Plain as kernel
 use Rattle.loop_check.specs.Views.{indexed_text}
 use Rattle.text_kernel.specs.Bindings as bindings
 use Rattle.text_kernel.specs.Lowering as lowering
-use Rattle.body_lower.specs.Views.{seen, AppendsLocals}
+use Rattle.lower_names.specs.Views.{seen, AppendsLocals}
 use Rattle.body_lower.proofs.assign.lower_locals.Given as goal
 
 abbrev pub invariant-loop-local : goal.invariant-loop-local

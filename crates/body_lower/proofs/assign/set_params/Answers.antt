@@ -2,8 +2,8 @@ use Rattle.std.proofs.Common.{sym, ap}
 use Rattle.forec_kernel.specs.Terms.{Set}
 use Rattle.forec_kernel.specs.declared.terms.Spot.TheVariants as spot
 use Rattle.loop_check.specs.Views.{indexed_text}
-use Rattle.body_lower.specs.Views.{seen}
-use Rattle.body_lower.proofs.Statements.{sets_step, sets_end}
+use Rattle.lower_names.specs.Views.{seen}
+use Rattle.lower_names.proofs.Statements.{sets_step, sets_end}
 use Rattle.body_lower.proofs.assign.set_params.Goals as goal
 
 pub loop-arg-preserved : goal.loop-arg-preserved

@@ -3,7 +3,7 @@ use Rattle.forec_tree.specs.Plain as plain
 use Rattle.forec_kernel.specs.Plain as kernel
 use Rattle.loop_check.specs.Views.{indexed_text}
 use Rattle.text_kernel.specs.Lowering as lowering
-use Rattle.body_lower.specs.Views.{seen}
+use Rattle.lower_names.specs.Views.{seen}
 use Rattle.body_lower.proofs.assign.set_params.Given as goal
 
 abbrev pub invariant-loop-arg : goal.invariant-loop-arg

@@ -2,8 +2,8 @@ use Rattle.std.proofs.Common.{◌∙◌, sym, ap, pos}
 use Rattle.forec_kernel.specs.Terms.{SetAt, Num}
 use Rattle.forec_kernel.specs.Plain.{expr}
 use Rattle.loop_check.specs.Views.{indexed_text}
-use Rattle.body_lower.specs.Views.{seen}
-use Rattle.body_lower.proofs.Statements.{values_step, values_end}
+use Rattle.lower_names.specs.Views.{seen}
+use Rattle.lower_names.proofs.Statements.{values_step, values_end}
 use Rattle.body_lower.proofs.assign.set_values.Goals as goal
 
 pub loop-at-preserved : goal.loop-at-preserved

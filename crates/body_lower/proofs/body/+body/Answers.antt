@@ -6,16 +6,16 @@ use Rattle.forec_tree.proofs.Rows.{of_group, of_if, of_for, of_par, of_abort}
 use Rattle.forec_tree.specs.Plain.{perhaps_of}
 use Rattle.forec_kernel.specs.Terms as kernel
 use Rattle.forec_kernel.specs.Plain.{stmt, stmts, expr}
-use Rattle.body_lower.specs.declared.state.State.{State}
+use Rattle.lower_names.specs.declared.state.State.{State}
 use Rattle.text_kernel.specs.Lowering.{NextNumbers, sequence, bound_of, or_inferred, after_start, lower_statement}
 use Rattle.text_kernel.specs.Bindings.{params_at}
-use Rattle.body_lower.specs.Heads.{for_of}
-use Rattle.body_lower.specs.Landings.{called_within}
-use Rattle.body_lower.specs.Views.{context_text, seen, next_of, Does, Done}
-use Rattle.body_lower.proofs.Statements.{kept_then}
-use Rattle.body_lower.proofs.LandingLemmas.{if_does, while_does, abort_does, does_boxed, does_shown, inner_lands, ok_then}
-use Rattle.body_lower.proofs.Doing.{does_as, for_does, call_does, count_args, ends_pushed, same_kept, kept_cut}
-use Rattle.body_lower.proofs.Going.{list_goes, list_ends, as_one_does, same_list, shown_same, place_none, place_unknown, place_known}
+use Rattle.lower_names.specs.Heads.{for_of}
+use Rattle.lower_names.specs.Landings.{called_within}
+use Rattle.lower_names.specs.Views.{context_text, seen, next_of, Does, Done}
+use Rattle.lower_names.proofs.Statements.{kept_then}
+use Rattle.lower_names.proofs.LandingLemmas.{if_does, while_does, abort_does, does_boxed, does_shown, inner_lands, ok_then}
+use Rattle.lower_names.proofs.Doing.{does_as, for_does, call_does, count_args, ends_pushed, same_kept, kept_cut}
+use Rattle.lower_names.proofs.Going.{list_goes, list_ends, as_one_does, same_list, shown_same, place_none, place_unknown, place_known}
 use Rattle.body_lower.proofs.body.+body.Goals as goal
 
 pub list-loop-s-preserved : goal.list-loop-s-preserved

@@ -2,9 +2,9 @@ use Rattle.std.proofs.Common.{◌+◌, ◌*◌, drop}
 use Rattle.forec_tree.specs.Plain as plain
 use Rattle.forec_kernel.specs.Plain as kernel
 use Rattle.text_kernel.specs.Lowering as lowering
-use Rattle.body_lower.specs.Landings.{called_within}
-use Rattle.body_lower.specs.Views.{context_text, seen, AppendsLocals, next_of}
-use Rattle.body_lower.proofs.Doing.{ListLeft}
+use Rattle.lower_names.specs.Landings.{called_within}
+use Rattle.lower_names.specs.Views.{context_text, seen, AppendsLocals, next_of}
+use Rattle.lower_names.proofs.Doing.{ListLeft}
 use Rattle.body_lower.proofs.body.+body.Given as goal
 
 abbrev pub decreases-by_kind : goal.decreases-by_kind

@@ -1,6 +1,6 @@
 use Rattle.std.proofs.Common.{ap}
 use Rattle.forec_kernel.specs.Plain.{exprs}
-use Rattle.body_lower.specs.Views.{context_text, seen}
+use Rattle.lower_names.specs.Views.{context_text, seen}
 use Rattle.body_lower.proofs.Pended.{call_launches, block_launches}
 use Rattle.body_lower.proofs.branches.arguments.Goals as goal
 

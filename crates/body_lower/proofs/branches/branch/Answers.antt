@@ -1,7 +1,7 @@
 use Rattle.std.proofs.Common.{refl}
 use Rattle.forec_kernel.specs.Plain.{exprs}
-use Rattle.body_lower.specs.declared.state.State.{State}
-use Rattle.body_lower.specs.Views.{context_text, seen}
+use Rattle.lower_names.specs.declared.state.State.{State}
+use Rattle.lower_names.specs.Views.{context_text, seen}
 use Rattle.body_lower.proofs.Pended.{branch_does}
 use Rattle.body_lower.proofs.branches.branch.Goals as goal
 

@@ -1,8 +1,8 @@
 use Rattle.std.proofs.Common.{sym}
-use Rattle.body_lower.specs.Landings.{called_within}
-use Rattle.body_lower.specs.Views.{context_text}
-use Rattle.body_lower.proofs.Doing.{same_then}
-use Rattle.body_lower.proofs.Going.{branches_go, branches_end}
+use Rattle.lower_names.specs.Landings.{called_within}
+use Rattle.lower_names.specs.Views.{context_text}
+use Rattle.lower_names.proofs.Doing.{same_then}
+use Rattle.lower_names.proofs.Going.{branches_go, branches_end}
 use Rattle.body_lower.proofs.branches.branches.Goals as goal
 
 pub loop-one-preserved : goal.loop-one-preserved

@@ -2,9 +2,9 @@ use Rattle.std.proofs.Common.{map, drop}
 use Rattle.forec_tree.specs.Plain as plain
 use Rattle.forec_kernel.specs.Plain as kernel
 use Rattle.text_kernel.specs.Lowering as lowering
-use Rattle.body_lower.specs.Landings.{called_within}
-use Rattle.body_lower.specs.Views.{context_text, seen, Same, next_of}
-use Rattle.body_lower.proofs.Doing.{BranchesLeft}
+use Rattle.lower_names.specs.Landings.{called_within}
+use Rattle.lower_names.specs.Views.{context_text, seen, Same, next_of}
+use Rattle.lower_names.proofs.Doing.{BranchesLeft}
 use Rattle.body_lower.proofs.branches.branches.Given as goal
 
 abbrev pub invariant-loop-one : goal.invariant-loop-one

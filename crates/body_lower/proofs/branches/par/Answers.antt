@@ -1,9 +1,9 @@
 use Rattle.std.proofs.Common.{ℕ, ◌∙◌, sym, ap, refl}
 use Rattle.text_kernel.specs.Lowering.{NextNumbers}
-use Rattle.body_lower.specs.declared.state.State.{State}
-use Rattle.body_lower.specs.Landings.{called_within}
-use Rattle.body_lower.specs.Views.{context_text, seen, next_of}
-use Rattle.body_lower.proofs.Going.{par_goes}
+use Rattle.lower_names.specs.declared.state.State.{State}
+use Rattle.lower_names.specs.Landings.{called_within}
+use Rattle.lower_names.specs.Views.{context_text, seen, next_of}
+use Rattle.lower_names.proofs.Going.{par_goes}
 use Rattle.body_lower.proofs.branches.par.Goals as goal
 
 pub returns-clause-does : goal.returns-clause-does

@@ -1,8 +1,8 @@
 use Rattle.std.proofs.Common.{ap, refl}
 use Rattle.forec_tree.specs.Plain.{statements}
 use Rattle.forec_kernel.specs.Plain.{stmt}
-use Rattle.body_lower.specs.declared.state.State.{State}
-use Rattle.body_lower.specs.Views.{context_text, pending_threads}
+use Rattle.lower_names.specs.declared.state.State.{State}
+use Rattle.lower_names.specs.Views.{context_text, pending_threads}
 use Rattle.body_lower.proofs.Pended.{block_made}
 use Rattle.body_lower.proofs.threads.blocking.Goals as goal
 

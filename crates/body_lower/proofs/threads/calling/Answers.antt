@@ -1,9 +1,9 @@
 use Rattle.std.proofs.Common.{◌∙◌, ap, refl}
 use Rattle.forec_tree.specs.Plain.{terms}
 use Rattle.forec_kernel.specs.Plain.{stmt}
-use Rattle.body_lower.specs.declared.state.State.{State}
-use Rattle.body_lower.specs.Views.{context_text, pending_threads}
-use Rattle.body_lower.proofs.Doing.{count_args}
+use Rattle.lower_names.specs.declared.state.State.{State}
+use Rattle.lower_names.specs.Views.{context_text, pending_threads}
+use Rattle.lower_names.proofs.Doing.{count_args}
 use Rattle.body_lower.proofs.Pended.{call_made}
 use Rattle.body_lower.proofs.threads.calling.Goals as goal
 

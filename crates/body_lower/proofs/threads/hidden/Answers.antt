@@ -1,9 +1,9 @@
 use Rattle.std.proofs.Common.{refl, []}
 use Rattle.forec_kernel.specs.Plain.{stmts}
-use Rattle.body_lower.specs.declared.state.State.{State}
-use Rattle.body_lower.specs.Landings.{called_within}
-use Rattle.body_lower.specs.Views.{context_text, seen, next_of}
-use Rattle.body_lower.proofs.Going.{as_one_does, same_list, shown_same}
+use Rattle.lower_names.specs.declared.state.State.{State}
+use Rattle.lower_names.specs.Landings.{called_within}
+use Rattle.lower_names.specs.Views.{context_text, seen, next_of}
+use Rattle.lower_names.proofs.Going.{as_one_does, same_list, shown_same}
 use Rattle.body_lower.proofs.threads.hidden.Goals as goal
 
 pub returns-clause-does : goal.returns-clause-does

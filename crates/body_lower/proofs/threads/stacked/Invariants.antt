@@ -1,6 +1,6 @@
 use Rattle.std.proofs.Common.{◌≡◌, ◌++◌, vec_len}
 use Rattle.forec_tree.specs.Terms.{Text}
-use Rattle.body_lower.specs.Views.{pending_threads, threads_on}
+use Rattle.lower_names.specs.Views.{pending_threads, threads_on}
 use Rattle.body_lower.proofs.threads.stacked.Given as goal
 
 abbrev pub invariant-loop-one : goal.invariant-loop-one

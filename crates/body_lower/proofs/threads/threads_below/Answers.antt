@@ -1,7 +1,7 @@
 use Rattle.std.proofs.Common.{◌∙◌, ap, ◌++◌, append-nil, map, arith}
 use Rattle.std.proofs.lemmas.List.{nil_from_length}
 use Rattle.loop_check.specs.Views.{indexed_text}
-use Rattle.body_lower.specs.Views.{of_thread, pending_threads, threads_of, threads_on}
+use Rattle.lower_names.specs.Views.{of_thread, pending_threads, threads_of, threads_on}
 use Rattle.body_lower.proofs.Pended.{thread_next, fewer_left, threads_end}
 use Rattle.body_lower.proofs.threads.threads_below.Goals as goal
 

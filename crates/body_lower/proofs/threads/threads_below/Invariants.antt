@@ -1,6 +1,6 @@
 use Rattle.std.proofs.Common.{◌≡◌, ◌++◌, [], map, length}
 use Rattle.loop_check.specs.Views.{indexed_text}
-use Rattle.body_lower.specs.Views.{of_thread, threads_of, threads_on}
+use Rattle.lower_names.specs.Views.{of_thread, threads_of, threads_on}
 use Rattle.body_lower.proofs.threads.threads_below.Given as goal
 
 abbrev pub invariant-loop-one : goal.invariant-loop-one

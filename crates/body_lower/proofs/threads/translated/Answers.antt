@@ -3,7 +3,7 @@ use Rattle.forec_tree.specs.Plain.{terms, statements, branch_with}
 use Rattle.forec_tree.specs.Terms.{Branches, no_branches, by_call, by_group}
 use Rattle.forec_tree.proofs.Rows.{branch-group}
 use Rattle.loop_check.specs.Views.{indexed_text}
-use Rattle.body_lower.specs.Views.{Bare, bare, made_by}
+use Rattle.lower_names.specs.Views.{Bare, bare, made_by}
 use Rattle.body_lower.proofs.threads.translated.Goals as goal
 
 pub returns-in_ok-thread-in-Call : goal.returns-in_ok-thread-in-Call

@@ -7,7 +7,7 @@ use Rattle.forec_kernel.specs.Shapes.{plain_thread}
 use Rattle.loop_check.specs.Views.{indexed_text}
 use Rattle.text_kernel.specs.Kernels as kernels
 use Rattle.text_kernel.specs.Kernels.{kernel_of, variable_count}
-use Rattle.body_lower.specs.Views.{of_thread}
+use Rattle.lower_names.specs.Views.{of_thread}
 use Rattle.kernel_drafts.specs.Drafts.{function_shape, function_text, root_of, thread_body}
 use Rattle.text_kernel.specs.Items.{globals_of, functions_of, variable_items, each_variable}
 use Rattle.text_kernel.proofs.VariableItems.{variables_are}

@@ -3,7 +3,7 @@ use Rattle.forec_tree.specs.Plain.{plain_function}
 use Rattle.forec_kernel.specs.Plain.{stmt}
 use Rattle.forec_kernel.specs.declared.shape.FunctionShape.{FunctionShape}
 use Rattle.loop_check.specs.Views.{indexed_text}
-use Rattle.body_lower.specs.declared.state.State.{State}
+use Rattle.lower_names.specs.declared.state.State.{State}
 use Rattle.text_kernel.specs.Lowering.{NextNumbers}
 use Rattle.kernel_drafts.proofs.Assembled.{translated}
 use Rattle.kernel_drafts.proofs.functions.translated.Goals as goal

@@ -4,7 +4,7 @@ use Rattle.forec_kernel.specs.Plain.{expr, exprs}
 use Rattle.forec_kernel.specs.WellFormed.{count_up}
 use Rattle.text_kernel.specs.Lowering.{vars_in, vars_all}
 use Rattle.kernel_drafts.specs.Marks.{is_marked}
-use Rattle.body_lower.proofs.Statements.{drop_next}
+use Rattle.lower_names.proofs.Statements.{drop_next}
 use Rattle.kernel_calls.proofs.Formed.{of_call}
 use Rattle.kernel_drafts.proofs.Marking.{marks_two, marks_as, marks_step}
 use Rattle.std.proofs.Common.{◌+◌, ◌||◌, drop, length, arith}

@@ -3,7 +3,7 @@ use Rattle.forec_tree.specs.Faults.{is_in}
 use Rattle.forec_kernel.specs.Plain.{exprs, branch}
 use Rattle.text_kernel.specs.Lowering.{vars_all, vars_launches}
 use Rattle.kernel_drafts.specs.Marks.{is_marked}
-use Rattle.body_lower.proofs.Statements.{drop_next}
+use Rattle.lower_names.proofs.Statements.{drop_next}
 use Rattle.kernel_drafts.proofs.Marking.{marks_as, marks_step}
 use Rattle.kernel_drafts.proofs.marks.mark_launches.Goals as goal
 

@@ -1,8 +1,8 @@
 use Rattle.std.proofs.Common.{◌∙◌, ◌-◌, min, max, length, map, sym, ap, subst}
 use Rattle.std.proofs.lemmas.List.{get_or-map}
-use Rattle.body_lower.specs.Views.{Bare, of_thread}
+use Rattle.lower_names.specs.Views.{Bare, of_thread}
 use Rattle.kernel_drafts.specs.Drafts.{vars_bare, part_at, blank_bare}
-use Rattle.body_lower.specs.declared.state.Thread.{Thread}
+use Rattle.lower_names.specs.declared.state.Thread.{Thread}
 use Rattle.kernel_drafts.specs.Marks.{MarksOf}
 use Rattle.kernel_drafts.proofs.Assembled.{part_same}
 use Rattle.kernel_drafts.proofs.shapes.marks_at.Goals as goal

@@ -2,10 +2,10 @@ use Rattle.std.proofs.Common.{◌∙◌, ◌+◌, ◌||◌, sym, ap, subst, map,
 use Rattle.forec_tree.specs.Faults.{is_in}
 use Rattle.forec_kernel.specs.Plain.{stmt}
 use Rattle.text_kernel.specs.Lowering.{vars_of}
-use Rattle.body_lower.specs.Views.{of_thread}
+use Rattle.lower_names.specs.Views.{of_thread}
 use Rattle.kernel_drafts.specs.Drafts.{vars_bare}
 use Rattle.kernel_drafts.specs.Marks.{is_marked, Marks}
-use Rattle.body_lower.proofs.Statements.{drop_next}
+use Rattle.lower_names.proofs.Statements.{drop_next}
 use Rattle.kernel_drafts.proofs.Marking.{marks_step, written_back}
 use Rattle.kernel_drafts.proofs.shapes.marks_of.Goals as goal
 

@@ -1,7 +1,7 @@
 use Rattle.std.proofs.Common.{ℕ, ◌≡◌, ◌<◌, ◌||◌, length, drop, map}
 use Rattle.forec_tree.specs.Faults.{is_in}
 use Rattle.kernel_drafts.specs.Marks.{is_marked}
-use Rattle.body_lower.specs.Views.{of_thread}
+use Rattle.lower_names.specs.Views.{of_thread}
 use Rattle.kernel_drafts.specs.Drafts.{vars_bare}
 use Rattle.kernel_drafts.proofs.shapes.marks_of.Given as goal
 

@@ -1,10 +1,10 @@
 use Rattle.std.proofs.Common.{◌∙◌, ◌+◌, sym, ap, subst, ◌∷◌, map, drop}
 use Rattle.std.proofs.lemmas.List.{drop-map, get_or-map}
-use Rattle.body_lower.specs.Views.{of_thread}
+use Rattle.lower_names.specs.Views.{of_thread}
 use Rattle.kernel_drafts.specs.Drafts.{named_at, marked_from, blank_bare}
 use Rattle.kernel_drafts.specs.Marks.{MarksOf, with_uses}
 use Rattle.forec_kernel.specs.Shapes.{PlainThread}
-use Rattle.body_lower.proofs.Statements.{drop_next}
+use Rattle.lower_names.proofs.Statements.{drop_next}
 use Rattle.kernel_drafts.proofs.Assembled.{shape_next, shapes_more, rows_more}
 use Rattle.kernel_drafts.proofs.shapes.threads_of.Goals as goal
 

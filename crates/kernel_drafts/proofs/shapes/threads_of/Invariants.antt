@@ -1,6 +1,6 @@
 use Rattle.std.proofs.Common.{◌≡◌, ◌++◌, ◌∷◌, map, drop}
 use Rattle.forec_kernel.specs.Shapes.{plain_thread}
-use Rattle.body_lower.specs.Views.{of_thread}
+use Rattle.lower_names.specs.Views.{of_thread}
 use Rattle.kernel_drafts.specs.Drafts.{bare_shapes, main_shape}
 use Rattle.kernel_drafts.specs.Marks.{row_uses, shape_uses}
 use Rattle.kernel_drafts.proofs.shapes.threads_of.Given as goal

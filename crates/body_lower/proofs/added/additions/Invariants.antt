@@ -1,6 +1,0 @@
-use Rattle.loop_check.specs.Views.{indexed_text}
-use Rattle.body_lower.specs.Additions.{AllAdd}
-use Rattle.body_lower.proofs.added.additions.Given as goal
-
-abbrev pub invariant-loop-f : goal.invariant-loop-f
-invariant-loop-f l = AllAdd (indexed_text l.index) l.table.items

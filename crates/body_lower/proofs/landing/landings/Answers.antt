@@ -1,8 +1,0 @@
-use Rattle.loop_check.specs.Views.{indexed_text}
-use Rattle.std.proofs.Common.{get_or}
-use Rattle.body_lower.proofs.LandingLemmas.{all_put}
-use Rattle.body_lower.proofs.landing.landings.Goals as goal
-
-pub loop-f-preserved : goal.loop-f-preserved
-loop-f-preserved c =
-    all_put (indexed_text c.args.index.now) (get_or c.args.order.now c.loop-f.f-index 0) c.landing_of-landing.result c.loop-f.table.items c.put.new.table.items c.loop-f.invariant c.in_ok-put.ensures.ok c.landing_of-landing.ensures
