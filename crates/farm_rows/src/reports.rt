@@ -1,7 +1,7 @@
-//! The reports of a program over lists of traces, and the status of the whole.
+//! The reports of a program over lists of traces, the status of the whole, and reports that have no room.
 
 use crate::compiled::{COUNTS, compiled};
-use forec_base::{Failed, MAX_BUDGET, MAX_ROWS, OpenGate, OutOfMemory, Sink, Source};
+use forec_base::{Failed, MAX_ROWS, OpenGate, OutOfMemory, Sink, Source};
 use std::alloc::Global;
 use std::process::Abort;
 use std::sync::Wait;
@@ -12,94 +12,31 @@ use trace_farm::{ReportSink, SliceSource, farm, greatest};
 /// A report: its bytes, and the number of its status.
 type Told = (&'static [u8], u32);
 
-/// A program over traces of which so many rows are run, with so many units a tick: what is reported of each, and the
-/// greatest status.
+/// Traces of which so many rows are run by the program that counts: what is reported of each, and the greatest status.
 struct Farmed {
-    text: &'static [u8],
     traces: &'static [&'static [u8]],
     rows: u64,
-    budget: u64,
     reports: &'static [Told],
     greatest: Option<u32>,
 }
 
-const ADDS: &[u8] =
-    b"input int a; output int s = 0; void main(void) { while (1) { s = s + a; pause; } }";
-
-const DIVIDES: &[u8] = b"input int a; output int q; void main(void) { q = 6 / a; }";
-
-const FARMED: [Farmed; 6] = [
+const FARMED: [Farmed; 2] = [
     Farmed {
-        text: COUNTS,
-        traces: &[b"\n\n\n", b""],
-        rows: 1000,
-        budget: 100,
-        reports: &[
-            (b"tick 1 o=1\ntick 2 o=2\nrows 2\n", 0),
-            (b"row 0 bad\n", 4),
-        ],
-        greatest: Some(4),
-    },
-    Farmed {
-        text: COUNTS,
-        traces: &[b"\n\n", b"\n\n"],
-        rows: 1000,
-        budget: 100,
-        reports: &[(b"tick 1 o=1\nrows 1\n", 0), (b"tick 1 o=1\nrows 1\n", 0)],
-        greatest: Some(0),
-    },
-    Farmed {
-        text: COUNTS,
         traces: &[],
         rows: 1000,
-        budget: 100,
         reports: &[],
         greatest: None,
     },
     // The last row is one too many, and a line without byte 10 at the end is a row.
     Farmed {
-        text: COUNTS,
         traces: &[b"\n\n\n\n", b"\n\n ", b"\n"],
         rows: 2,
-        budget: 100,
         reports: &[
             (b"tick 1 o=1\ntick 2 o=2\nrow 3 many\n", 4),
             (b"tick 1 o=1\ntick 2 o=2\nrows 2\n", 0),
             (b"rows 0\n", 0),
         ],
         greatest: Some(4),
-    },
-    Farmed {
-        text: ADDS,
-        traces: &[
-            b"a\n1\n2\n",
-            b"a\n2147483647\n1\n",
-            b"a\n-5\n",
-            b"b\n1\n",
-            b"a\n7\n",
-        ],
-        rows: 1000,
-        budget: 8,
-        reports: &[
-            (b"tick 1 s=1\ntick 2 s=3\nrows 2\n", 0),
-            (b"tick 1 s=2147483647\ntick 2 s=-2147483648\nrows 2\n", 0),
-            (b"tick 1 s=-5\nrows 1\n", 0),
-            (b"row 0 bad\n", 4),
-            (b"tick 1 s=7\nrows 1\n", 0),
-        ],
-        greatest: Some(4),
-    },
-    Farmed {
-        text: DIVIDES,
-        traces: &[b"a\n3\n", b"a\n0\n", b"a\n4\n"],
-        rows: 1000,
-        budget: 100,
-        reports: &[
-            (b"tick 1 q=2\nend 1\n", 0),
-            (b"trap 1 1:52 divide\n", 5),
-            (b"tick 1 q=1\nend 1\n", 0),
-        ],
-        greatest: Some(5),
     },
 ];
 
@@ -108,13 +45,13 @@ fn run_farm(
     alloc: Global,
     case: &Farmed,
 ) -> Result<(), Fail> {
-    assert!(rt; case.rows <= MAX_ROWS && case.budget <= MAX_BUDGET);
-    let code = compiled(rt, alloc, case.text)?;
+    assert!(rt; case.rows <= MAX_ROWS);
+    let code = compiled(rt, alloc, COUNTS)?;
     let mut traces = Vec::new(alloc);
     for trace in case.traces {
         traces.push(trace.to_vec(alloc)?)?;
     }
-    let reports = farm(rt, alloc, &code, &traces, case.rows, case.budget, &OpenGate)?;
+    let reports = farm(rt, alloc, &code, &traces, case.rows, 100, &OpenGate)?;
     assert_eq!(rt; reports.len(), case.reports.len());
     let mut statuses = Vec::new(alloc);
     for (report, told) in reports.iter().zip(case.reports) {
@@ -131,19 +68,6 @@ fn reports_are_in_order(rt: HostRuntime) -> Result<(), Fail> {
     for case in &FARMED {
         run_farm(&rt, alloc, case)?;
     }
-    Ok(())
-}
-
-/// A budget that one tick passes.
-#[test]
-fn a_tick_is_over(rt: HostRuntime) -> Result<(), Fail> {
-    let alloc = rt.alloc();
-    let code = compiled(&rt, alloc, COUNTS)?;
-    let traces = vec![in alloc; b"\n\n".to_vec(alloc)?]?;
-    let reports = farm(&rt, alloc, &code, &traces, MAX_ROWS, 6, &OpenGate)?;
-    let report = &reports[0];
-    let told = b"over 1 budget 6\n".as_slice();
-    assert_eq!(&rt; (report.bytes.as_slice(), report.status), (told, 6));
     Ok(())
 }
 

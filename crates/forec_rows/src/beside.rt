@@ -1,8 +1,7 @@
 //! Cores beside each other: each holds its job until the others have theirs.
 
-use crate::aborts::{DRIVE, DRIVEN, ROBOT};
-use crate::cores::{ADDED, ADDS};
 use crate::memory::{Asked, run_past, whole};
+use crate::programs::{ADDED, ADDS, DRIVE, DRIVEN, ROBOT};
 use forec_base::{Gate, Point};
 use forec_engine::Status;
 use std::alloc::Global;

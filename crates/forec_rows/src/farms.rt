@@ -1,7 +1,7 @@
 //! One program over many traces.
 
-use crate::cores::ADDS;
 use crate::memory::owned;
+use crate::programs::{ADDS, COUNTER};
 use forec_base::{Gate, MemSink, MemSource, MemTexts, NamedText, OpenGate, Point};
 use forec_engine::{Status, forec};
 use std::alloc::Global;
@@ -14,8 +14,6 @@ use std::thread::Threads;
 
 /// How often a run looks for the other at most.
 const TURNS: u32 = 50_000_000;
-
-const COUNTS: &[u8] = b"output int o = 0; void main(void) { while (1) { o = o + 1; pause; } }";
 
 /// A store with a program `P`, and with the traces `T1` and `T2`, of which the call of this number fails; 0 is none.
 fn store(alloc: Global, program: &[u8], traces: [&[u8]; 2], fails: u64) -> Result<MemTexts, Fail> {
@@ -91,22 +89,12 @@ fn traces_meet(rt: HostRuntime) -> Result<(), Fail> {
     Ok(())
 }
 
-const TOLD: &[u8] =
-    b"trace T1\ntick 1 o=1\ntick 2 o=2\nrows 2\nstatus 0\ntrace T2\nrow 0 bad\nstatus 4\n";
-
-#[test]
-fn reports_are_told(rt: HostRuntime) -> Result<(), Fail> {
-    let alloc = rt.alloc();
-    let mut texts = store(alloc, COUNTS, [b"\n\n\n", b""], 0)?;
-    farms(&rt, alloc, &mut texts, 0, &OpenGate, (TOLD, Status::Trace))
-}
-
 /// Where a text can't be read nothing is written.
 #[test]
 fn each_read_fails(rt: HostRuntime) -> Result<(), Fail> {
     let alloc = rt.alloc();
     for fails in 1..4 {
-        let mut texts = store(alloc, COUNTS, [b"\n\n\n", b""], fails)?;
+        let mut texts = store(alloc, COUNTER, [b"\n\n\n", b""], fails)?;
         let want = (b"".as_slice(), Status::ReadFault);
         farms(&rt, alloc, &mut texts, 0, &OpenGate, want)?;
     }
@@ -131,6 +119,10 @@ const WRITES: [&[u8]; 14] = [
     b"\n",
 ];
 
+/// The report as a whole.
+const TOLD: &[u8] =
+    b"trace T1\ntick 1 o=1\ntick 2 o=2\nrows 2\nstatus 0\ntrace T2\nrow 0 bad\nstatus 4\n";
+
 /// After a write that fails the writes before it are held.
 #[test]
 fn each_write_fails(rt: HostRuntime) -> Result<(), Fail> {
@@ -139,7 +131,7 @@ fn each_write_fails(rt: HostRuntime) -> Result<(), Fail> {
     let mut front: Vec<u8> = Vec::new(alloc);
     for piece in WRITES {
         write = write.saturating_add(1);
-        let mut texts = store(alloc, COUNTS, [b"\n\n\n", b""], 0)?;
+        let mut texts = store(alloc, COUNTER, [b"\n\n\n", b""], 0)?;
         let want = (front.as_slice(), Status::WriteFault);
         farms(&rt, alloc, &mut texts, write, &OpenGate, want)?;
         front.extend_from_slice(piece)?;

@@ -1,24 +1,16 @@
-//! The worked rows of the top call, and how it ends where streams fail, over stores in memory.
+//! How the top call ends over streams and stores in memory: where they fail, give single bytes, or wait.
 #![tactic(auto)]
 
 #[cfg(test)]
-mod aborts;
-#[cfg(test)]
 mod beside;
-#[cfg(test)]
-mod branches;
-#[cfg(test)]
-mod cores;
 #[cfg(test)]
 mod farms;
 #[cfg(test)]
 mod gate;
 #[cfg(test)]
-mod logs;
-#[cfg(test)]
 mod memory;
 #[cfg(test)]
-mod one_thread;
+mod programs;
 #[cfg(test)]
 mod rows;
 #[cfg(test)]

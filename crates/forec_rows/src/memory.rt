@@ -70,17 +70,7 @@ pub fn store(alloc: Global, text: &[u8]) -> Result<MemTexts, Fail> {
     Ok(MemTexts::new(files, Vec::new(alloc)))
 }
 
-/// Does what is asked.
-pub fn run(
-    rt: &(impl Abort + Threads + Wait + Sync),
-    alloc: Global,
-    asked: Asked<'_>,
-    streams: Streams,
-) -> Result<Ended, Fail> {
-    run_past(rt, alloc, asked, streams, &OpenGate)
-}
-
-/// The same, where each job passes a gate.
+/// Does what is asked, where each job passes a gate.
 pub fn run_past<G: Gate + Sync>(
     rt: &(impl Abort + Threads + Wait + Sync),
     alloc: Global,
@@ -101,7 +91,7 @@ pub fn run_past<G: Gate + Sync>(
     })
 }
 
-/// Does what is asked: this is held in the end, and this is the status.
+/// Does what is asked, past an open gate: this is held in the end, and this is the status.
 pub fn shows(
     rt: &(impl Abort + Threads + Wait + Sync),
     alloc: Global,
@@ -109,44 +99,7 @@ pub fn shows(
     streams: Streams,
     want: (&[u8], Status),
 ) -> Result<(), Fail> {
-    let end = run(rt, alloc, asked, streams)?;
+    let end = run_past(rt, alloc, asked, streams, &OpenGate)?;
     assert_eq!(rt; (end.held.as_slice(), end.status), want);
     Ok(())
-}
-
-/// A text, a trace, what is held in the end, and the status.
-pub type Row = (&'static [u8], &'static [u8], &'static [u8], Status);
-
-/// Runs the text of each row over its trace, once by large pieces and once by single bytes.
-pub fn prints_each(
-    rt: &(impl Abort + Threads + Wait + Sync),
-    alloc: Global,
-    rows: &[Row],
-) -> Result<(), Fail> {
-    for (text, trace, want, status) in rows {
-        for streams in [whole(alloc), single(alloc, 0, 0)?] {
-            let asked = Asked {
-                words: &["run", "P"],
-                text,
-                trace,
-            };
-            shows(rt, alloc, asked, streams, (want, *status))?;
-        }
-    }
-    Ok(())
-}
-
-/// Judges a text: this is held in the end. The trace would fail at its first read.
-pub fn counts(
-    rt: &(impl Abort + Threads + Wait + Sync),
-    alloc: Global,
-    text: &[u8],
-    want: (&[u8], Status),
-) -> Result<(), Fail> {
-    let asked = Asked {
-        words: &["check", "P"],
-        text,
-        trace: b"",
-    };
-    shows(rt, alloc, asked, single(alloc, 1, 0)?, want)
 }

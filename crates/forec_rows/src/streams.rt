@@ -1,12 +1,12 @@
-//! Streams that fail at one of their calls.
+//! Streams that fail at one of their calls, and stores that never fail.
 
-use crate::memory::{Asked, Streams, shows, single, whole};
-use forec_engine::Status;
+use crate::memory::{Asked, Streams, owned, shows, single, whole};
+use crate::programs::{ADDED, ADDS, COUNTED, COUNTER};
+use forec_base::{MemSink, OpenGate, SureSource, SureTexts};
+use forec_engine::{Status, forec};
 use std::alloc::Global;
 use std::process::Abort;
 use std::test::Fail;
-
-const COUNTER: &[u8] = b"output int o = 0; void main(void) { while (1) { o = o + 1; pause; } }";
 
 const ABORTED: &[u8] =
     b"input int r; output int o = 0; void main(void) { while (1) { abort { while (1) { o = o + 1; pause; } } when (r); o = o + 100; pause; } }";
@@ -14,16 +14,26 @@ const ABORTED: &[u8] =
 const DIFFERENCE: &[u8] =
     b"input int a, b; output int o = 0; void main(void) { while (1) { o = a - b; pause; } }";
 
-const ADDS: &[u8] = b"shared output int s = 1 combine all with plus;
-int plus(int x, int y) { return x + y; }
-void a(void) { s = s + 1; pause; }
-void b(void) { s = s + 2; pause; }
-void main(void) { par(a, b); }
+/// One output, which passes the greatest number.
+const WRAPS: &[u8] = b"output int o = 2147483647; void main(void) { o = o + 1; }";
+
+const WRAPPED: &[u8] = b"tick 1 o=-2147483648\nend 1\n";
+
+/// A loop that may turn five times in a tick.
+const TURNS: &[u8] =
+    b"output int o = 0; void main(void) { int i = 0; while (i < 10) #5 { i = i + 1; } o = i; }";
+
+/// A loop that never pauses, which is refused.
+const ENDLESS: &[u8] = b"output int o = 0; void main(void) { while (1) { o = 1; } }";
+
+const LISTED: &[u8] = b"thread 0 parent - name main core 0 weight 1
+thread 1 parent 0 name a core 0 weight 5
+thread 2 parent 0 name b core 1 weight 5
+bound 15
 ";
 
-const COUNTED: &[u8] = b"tick 1 o=1\ntick 2 o=2\nrows 2\n";
-
-/// Words, a text, and a trace whose last byte has to be read; the report, and the status; whether the end is looked for.
+/// Words, a text, and a trace whose last byte has to be read, or which is empty where no read is made; the report, and the
+/// status; whether the end is looked for.
 type Case = (
     &'static [&'static str],
     &'static [u8],
@@ -33,7 +43,7 @@ type Case = (
     bool,
 );
 
-const CASES: [Case; 9] = [
+const CASES: [Case; 18] = [
     (
         &["run", "P"],
         COUNTER,
@@ -102,7 +112,72 @@ const CASES: [Case; 9] = [
         &["run", "P", "--cores", "3", "--place", "0,1,2"],
         ADDS,
         b"\n\n\n",
-        b"tick 1 s=5\ntick 2 s=10\nend 2\n",
+        ADDED,
+        Status::Done,
+        false,
+    ),
+    (&["run", "P"], WRAPS, b"\n\n", WRAPPED, Status::Done, false),
+    (
+        &["run", "P"],
+        TURNS,
+        b"\n\n",
+        b"trap 1 1:48 turns\n",
+        Status::Trapped,
+        false,
+    ),
+    (
+        &["run", "P", "--budget", "6"],
+        COUNTER,
+        b"\n\n",
+        b"over 1 budget 6\n",
+        Status::Over,
+        false,
+    ),
+    (
+        &["run", "P"],
+        ENDLESS,
+        b"",
+        b"refused 1:37 rule 20\n",
+        Status::Refused,
+        false,
+    ),
+    (
+        &["run", "P", "--place", "0,0,1"],
+        ADDS,
+        b"",
+        b"place core 2\n",
+        Status::Usage,
+        false,
+    ),
+    (
+        &["check", "P"],
+        COUNTER,
+        b"",
+        b"ok threads 1 inputs 0 outputs 1\n",
+        Status::Done,
+        false,
+    ),
+    (
+        &["threads", "P", "--cores", "2"],
+        ADDS,
+        b"",
+        LISTED,
+        Status::Done,
+        false,
+    ),
+    (
+        &["code", "P"],
+        b"void main(void) { }",
+        b"",
+        b"thread 0\n0 end\n",
+        Status::Done,
+        false,
+    ),
+    (
+        &["gen", "1"],
+        b"",
+        b"",
+        b"gen 1 ticks 1000 sum 500500\n",
         Status::Done,
         false,
     ),
@@ -142,13 +217,14 @@ fn one_read_fails(alloc: Global, size: usize, call: usize) -> Result<Streams, Fa
     })
 }
 
-/// Where a read fails, the lines of the rows that came whole before it are held; no read is made after the last one.
+/// Where a read fails, the lines of the rows that came whole before it are held; no read is made after the last one. The
+/// trace comes in small pieces, or at once.
 #[test]
 fn each_read_fails(rt: HostRuntime) -> Result<(), Fail> {
     let alloc = rt.alloc();
     for (words, text, trace, report, status, to_end) in &CASES {
         let asked = Asked { words, text, trace };
-        for size in [1usize, 2, 5] {
+        for size in [1usize, 2, 5, 65536] {
             let reads = trace
                 .len()
                 .div_ceil(size)
@@ -208,5 +284,20 @@ fn a_read_and_a_write_fail(rt: HostRuntime) -> Result<(), Fail> {
         };
         shows(&rt, alloc, asked, streams, held)?;
     }
+    Ok(())
+}
+
+/// Stores that never fail.
+#[test]
+fn sure_stores(rt: HostRuntime) -> Result<(), Fail> {
+    let alloc = rt.alloc();
+    let mut texts = SureTexts::new(WRAPS.to_vec(alloc)?);
+    let mut trace = SureSource::new(b"\n\n".to_vec(alloc)?);
+    let mut out = MemSink::new(alloc, 100, Vec::new(alloc))?;
+    let words = owned(alloc, &["run", "any name"])?;
+    let status = forec(
+        &rt, alloc, &words, &mut texts, &mut trace, &mut out, &OpenGate,
+    );
+    assert_eq!(rt; (out.bytes(), status), (WRAPPED, Status::Done));
     Ok(())
 }

@@ -1,6 +1,7 @@
 //! A source that gives the next row only once the line of each row before it has been taken.
 
 use crate::memory::{owned, store};
+use crate::programs::{ADDED, ADDS, COUNTED, COUNTER};
 use forec_base::{Failed, MemSink, MemSource, OpenGate, Sink, Source};
 use forec_engine::{Status, forec};
 use std::process::Abort;
@@ -74,27 +75,14 @@ impl Sink for Counting<'_> {
     }
 }
 
-const COUNTER: &[u8] = b"output int o = 0; void main(void) { while (1) { o = o + 1; pause; } }";
-
-const ADDS: &[u8] = b"shared output int s = 1 combine all with plus;
-int plus(int x, int y) { return x + y; }
-void a(void) { s = s + 1; pause; }
-void b(void) { s = s + 2; pause; }
-void main(void) { par(a, b); }
-";
-
 /// Words, a text, and its report over two rows without words.
 const REPORTS: [(&[&str], &[u8], &[u8]); 3] = [
-    (&["run", "P"], COUNTER, b"tick 1 o=1\ntick 2 o=2\nrows 2\n"),
-    (
-        &["explain", "P"],
-        COUNTER,
-        b"tick 1 o=1\ntick 2 o=2\nrows 2\n",
-    ),
+    (&["run", "P"], COUNTER, COUNTED),
+    (&["explain", "P"], COUNTER, COUNTED),
     (
         &["run", "P", "--cores", "3", "--place", "0,1,2"],
         ADDS,
-        b"tick 1 s=5\ntick 2 s=10\nend 2\n",
+        ADDED,
     ),
 ];
 

@@ -9,22 +9,18 @@ use forec_kernel::{
 };
 use forec_lexer::lex;
 use forec_parser::parse;
-use kernel_lower::{LowerFault, lower};
+use kernel_lower::lower;
 use std::alloc::Global;
 use std::test::Fail;
-use text_kernel::Quantity;
 
-/// The kernel of a text that breaks no rule, or the limit that it passes first.
-pub fn lowered(alloc: Global, text: &[u8]) -> Result<Result<Box<Kernel>, LowerFault>, Fail>
+/// The kernel of a text that breaks no rule and passes no limit.
+pub fn lowered(alloc: Global, text: &[u8]) -> Result<Box<Kernel>, Fail>
     requires { length text.now ≤ 1048576 }
 {
     let lexed = lex(alloc, text)?;
     let program = parse(alloc, &lexed.tokens)?;
     let checked = check(alloc, program, &lexed.names)?;
-    match lower(alloc, &checked, checked.names()) {
-        Ok(kernel) => Ok(Ok(Box::new(alloc, kernel)?)),
-        Err(fault) => Ok(Err(fault)),
-    }
+    Ok(Box::new(alloc, lower(alloc, &checked, checked.names())?)?)
 }
 
 const WORK: &[u8] = b"const int t[3] = { 4, 5 };
@@ -127,31 +123,8 @@ fn is_kernel(kernel: &Kernel) -> bool {
 
 #[test]
 fn a_kernel(rt: HostRuntime) -> Result<(), Fail> {
-    let kernel = lowered(rt.alloc(), WORK)??;
+    let kernel = lowered(rt.alloc(), WORK)?;
     assert!(rt; is_kernel(&kernel));
-    Ok(())
-}
-
-/// The limit that a text passes first, if it passes one.
-fn fault_of(alloc: Global, text: &[u8]) -> Result<Option<LowerFault>, Fail>
-    requires { length text.now ≤ 1048576 }
-{
-    Ok(lowered(alloc, text)?.err())
-}
-
-const MOST: &[u8] = b"void main(void) { int a[40000], b[25536]; }";
-
-const MORE: &[u8] = b"void main(void) { int a[40000], b[25536]; int c; }";
-
-const WORDS: LowerFault = LowerFault::Limit {
-    what: Quantity::Words,
-    count: 65536,
-};
-
-#[test]
-fn a_limit(rt: HostRuntime) -> Result<(), Fail> {
-    assert!(rt; fault_of(rt.alloc(), MOST)?.is_none());
-    assert!(rt; fault_of(rt.alloc(), MORE)? == Some(WORDS));
     Ok(())
 }
 
@@ -162,22 +135,6 @@ int o;
 int plus(int x, int y) { return x + y; }
 void main(void) { g[o] = h[1]; }
 ";
-
-const MORE_VARIABLES: &[u8] = b"shared int g[4096] combine mod with plus;
-int o;
-int plus(int x, int y) { return x + y; }
-void main(void) { g[0] = 1; }
-";
-
-const LONG_ARRAYS: &[u8] = b"shared int g[65536] combine mod with plus;
-int plus(int x, int y) { return x + y; }
-void main(void) { int a[40000], b[25537]; g[0] = 1; }
-";
-
-const GLOBALS: LowerFault = LowerFault::Limit {
-    what: Quantity::Globals,
-    count: 4096,
-};
 
 /// The start values of the first variables, how many outputs there are, and the names at the ends.
 fn has_elements(kernel: &Kernel) -> bool {
@@ -195,9 +152,7 @@ fn has_elements(kernel: &Kernel) -> bool {
 
 #[test]
 fn elements_are_variables(rt: HostRuntime) -> Result<(), Fail> {
-    let kernel = lowered(rt.alloc(), ALL_VARIABLES)??;
+    let kernel = lowered(rt.alloc(), ALL_VARIABLES)?;
     assert!(rt; has_elements(&kernel));
-    assert!(rt; fault_of(rt.alloc(), MORE_VARIABLES)? == Some(GLOBALS));
-    assert!(rt; fault_of(rt.alloc(), LONG_ARRAYS)? == Some(WORDS));
     Ok(())
 }

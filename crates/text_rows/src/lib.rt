@@ -3,8 +3,6 @@
 #![tactic(auto)]
 
 #[cfg(test)]
-mod arrays;
-#[cfg(test)]
 mod checked;
 #[cfg(test)]
 mod kernels;

@@ -165,7 +165,7 @@ fn goes_as_told(alloc: Global, run: &Run) -> Result<bool, Fail> {
     if run.text.len() > 1000 {
         return Ok(false);
     }
-    let kernel = lowered(alloc, run.text)??;
+    let kernel = lowered(alloc, run.text)?;
     Ok(goes_so(alloc, &kernel, run, &[])? && goes_so(alloc, &kernel, run, &[1, 0, 1, 3, 2])?)
 }
 

@@ -1,51 +1,13 @@
-//! What is told of texts: the reports of worked dumps, and the lines of texts that are refused.
-use crate::worked::{COUNTS, MIXED, NONE};
+//! What is told of texts that are long, and to sinks that take pieces or fail.
+use crate::worked::COUNTS;
 use dump_report::{DumpStatus, tell};
 use forec_base::{MAX_TEXT_BYTES, MemSink};
 use std::alloc::Global;
 use std::process::Abort;
 use std::test::Fail;
 
-/// A dump whose output has no name, and an ending that no run has.
-const NAMELESS: &[u8] = b"$timescale 1 ns $end
-$scope module forec $end
-$var wire 32 !  $end
-$upscope $end
-$enddefinitions $end
-#1
-b00000000000000000000000000000001 !
-$comment x $end
-";
-
-/// The unit of time is another.
-const MICROSECONDS: &[u8] = b"$timescale 1 us $end
-$scope module forec $end
-$upscope $end
-$enddefinitions $end
-$comment rows 0 $end
-";
-
 /// The report of `COUNTS`.
 const COUNTED: &[u8] = b"tick 1 o=1\ntick 2 o=2\nrows 2\n";
-
-/// Texts, what is told of them, and the status.
-const REPORTS: [(&[u8], &[u8], DumpStatus); 6] = [
-    (COUNTS, COUNTED, DumpStatus::Done),
-    (
-        MIXED,
-        b"tick 1 a[0]=0 a[1]=-1 b=-2147483648
-tick 2 a[0]=0 a[1]=-1 b=-2147483648
-tick 3 a[0]=0 a[1]=2147483647 b=-2147483648
-tick 4 a[0]=5 a[1]=-2147483648 b=-2
-end 4
-",
-        DumpStatus::Done,
-    ),
-    (NONE, b"row 0 bad\n", DumpStatus::Done),
-    (NAMELESS, b"tick 1 =1\nx\n", DumpStatus::Done),
-    (b"", b"refused byte 1\n", DumpStatus::Refused),
-    (MICROSECONDS, b"refused byte 14\n", DumpStatus::Refused),
-];
 
 /// What is told of a text: what the sink holds then, and the status.
 #[derive(Drop)]
@@ -72,30 +34,6 @@ fn told(
 /// The same to a sink that takes all bytes at once, and doesn't fail.
 fn told_whole(alloc: Global, text: &[u8]) -> Result<Written, Fail> {
     told(alloc, text, 1_000_000, usize::MAX, Vec::new(alloc))
-}
-
-#[test]
-fn reports(rt: HostRuntime) -> Result<(), Fail> {
-    let alloc = rt.alloc();
-    for (text, report, status) in &REPORTS {
-        let told = told_whole(alloc, text)?;
-        assert_eq!(rt; told.held.as_slice(), *report);
-        assert_eq!(rt; told.status, *status);
-    }
-    Ok(())
-}
-
-/// A dump that is cut is refused at the byte behind its last.
-#[test]
-fn cut_at_each_byte(rt: HostRuntime) -> Result<(), Fail> {
-    let alloc = rt.alloc();
-    for length in 0..COUNTS.len() {
-        let told = told_whole(alloc, &COUNTS[..length])?;
-        let line = format!(in alloc; "refused byte {}\n", length + 1)?;
-        assert_eq!(rt; told.held.as_slice(), line.as_bytes());
-        assert_eq!(rt; told.status, DumpStatus::Refused);
-    }
-    Ok(())
 }
 
 /// A text of a byte too many isn't read.

@@ -22,7 +22,7 @@ $comment rows 2 $end
 ";
 
 /// Outputs of an array beside others: each is written in tick 1, and later where it changes.
-pub const MIXED: &[u8] = b"$timescale 1 ns $end
+const MIXED: &[u8] = b"$timescale 1 ns $end
 $scope module forec $end
 $var wire 32 ! a(0) $end
 $var wire 32 \" a(1) $end
@@ -44,7 +44,7 @@ $comment end 4 $end
 ";
 
 /// A header that was refused, without outputs.
-pub const NONE: &[u8] = b"$timescale 1 ns $end
+const NONE: &[u8] = b"$timescale 1 ns $end
 $scope module forec $end
 $upscope $end
 $enddefinitions $end
