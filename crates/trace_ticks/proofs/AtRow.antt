@@ -1,15 +1,16 @@
 -- What a loop over the rows of a trace keeps.
 use Rattle.std.proofs.Common.{◌≡◌, ◌≤◌, ◌+◌, ℕ, true, List, Option, length, vec_len, refl, sym, ap, ◌∙◌, arith}
 use Rattle.std.specs.Io.KnownBytes.{IsAtEnd}
+use Rattle.forec_kernel.specs.Shapes.{PlainShape}
 use Rattle.trace_rows.specs.Reader.{Reader}
-use Rattle.trace_rows.specs.Trace.{Row}
+use Rattle.trace_rows.specs.Trace.{Row, row_width}
 use Rattle.trace_ticks.specs.Formats.{names_in, format_after}
-use Rattle.trace_ticks.specs.Sessions.{AreRowsOf}
+use Rattle.trace_ticks.specs.Sessions.{AreRowsOf, IsSessionOf}
 use Rattle.trace_ticks.specs.declared.format.Format.{Format}
 use Rattle.trace_ticks.specs.declared.session.Session.{Session}
 use Rattle.trace_ticks.proofs.NextRows.{Gave}
 use Rattle.trace_ticks.proofs.Running.{Stands_at, row_within, stands_first, stands_more}
-use Rattle.trace_ticks.proofs.TickLines.{names_after}
+use Rattle.trace_ticks.proofs.TickLines.{inputs_each, names_after}
 
 -- before this row of those that a loop began with: the session has as many places and the same names as then, a further row may be asked for, and
 -- no count of faults has fallen
@@ -24,6 +25,15 @@ pub record AtRow (begun now : Session) (first rows : Reader) (row : ℕ) (left :
   pub ended : rows.ended ≡ true → IsAtEnd left
   pub read : read_old ≤ read_new
   pub written : written_old ≤ written_new
+
+-- the rows behind a header that was read for a session
+pub rows_behind : {shape : PlainShape} {s : Session} {rows : Reader} → IsSessionOf shape s → (row_width rows.form ≡ length s.inputs) × (rows.limit ≡ s.limit) × (rows.given ≡ 0) × (rows.live ≡ true) → AreRowsOf s rows
+rows_behind {shape} is rows = record {
+  limit = rows.1;
+  number = rows.2;
+  each = rows.0 ∙ ap length is.inputs ∙ inputs_each shape ∙ sym is.image;
+  live = rows.3;
+}
 
 -- at the start
 pub at_first : {s : Session} {rows : Reader} {left : Option (List ℕ)} {read written : ℕ} → AreRowsOf s rows → (rows.ended ≡ true → IsAtEnd left) → AtRow s s rows rows 1 left read read written written

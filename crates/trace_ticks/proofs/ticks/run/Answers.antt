@@ -1,25 +1,18 @@
-use Rattle.std.proofs.Common.{◌≡◌, false, length, sym, ap, refl, ◌∙◌}
+use Rattle.std.proofs.Common.{◌≡◌, false, sym, ap, refl, ◌∙◌}
 use Rattle.forec_kernel.specs.Shapes.{PlainKernel}
 use Rattle.trace_ticks.specs.KernelNames.{inputs_of}
 use Rattle.trace_ticks.specs.Ticking.{Starts}
 use Rattle.trace_ticks.proofs.AfterHeader.{Headed, Unheaded, no_memory, no_line, no_header, none_ran, rows_unread, rows_unwritten, rows_parted, rows_cut, rows_told, rows_ran}
 use Rattle.trace_ticks.proofs.Asking.{asked_none}
+use Rattle.trace_ticks.proofs.AtRow.{rows_behind}
 use Rattle.trace_ticks.proofs.Heading.{started}
 use Rattle.trace_ticks.proofs.Printing.{own_else}
-use Rattle.trace_ticks.proofs.TickLines.{inputs_each}
 use Rattle.trace_ticks.proofs.ticks.run.Given.{Over}
 use Rattle.trace_ticks.proofs.ticks.run.Goals.{After-run_rows, After-start}
 use Rattle.trace_ticks.proofs.ticks.run.Goals as goal
 
 pub run_rows-requires-clause-rows : goal.run_rows-requires-clause-rows
-run_rows-requires-clause-rows g c =
-    let rows = c.in-Ok.ensures.rows in
-    record {
-      limit = rows.1;
-      number = rows.2;
-      each = rows.0 ∙ ap length c.requires.session.inputs ∙ inputs_each (g.T.Ticker.shape c.args.ticker.now) ∙ sym c.requires.session.image;
-      live = rows.3;
-    }
+run_rows-requires-clause-rows g c = rows_behind c.requires.session c.in-Ok.ensures.rows
 
 -- ---- a header, and rows
 
