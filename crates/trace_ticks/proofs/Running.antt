@@ -33,7 +33,7 @@ use Rattle.trace_ticks.specs.declared.status.Status.{Status}
 use Rattle.trace_ticks.specs.declared.status.Status.TheVariants as status
 use Rattle.trace_ticks.proofs.Following.{led_on, outcome_at, outputs_at}
 use Rattle.whole_writes.proofs.Appending.{appends_both, front_longer, front_behind, appends_refl}
-use Rattle.trace_ticks.proofs.Told.{told_both, told_refl, told_some, some_map}
+use Rattle.trace_ticks.proofs.Told.{told_and, told_both, told_refl, told_some, some_map}
 use Rattle.trace_ticks.proofs.NextRows.{Gave, stops_there}
 use Rattle.trace_ticks.proofs.Advancing.{turns_on, turns_stop, report_step, behind_twice, PausesAtRow, advance_more, pace_after, paused, printed_after, run_on, run_stops}
 use Rattle.trace_ticks.proofs.Splitting.{Cut, no_line, whole_lines-line, came_told, takes_told}
@@ -247,11 +247,6 @@ taken_more run now new p line values x y z t cut is on = record {
       (subst (λ (q : Pace). PausesAtRow run.first.limit run.kernel run.budget q.form q.state q.next line values) t.behind (record { row_is = is; on = on }));
   behind = ap (λ (q : Pace). pace_after run.kernel run.budget q values) t.behind ∙ sym (printed_after run.kernel run.budget (opening run.format) t.rest values);
 }
-
-told_and : (a b : Option (List ℕ)) (P Q : List ℕ → List ℕ → Type 0) → IfTold a b P → IfTold a b Q → IfTold a b (λ x y. P x y × Q x y)
-told_and None b P Q h k = tt
-told_and (Some x) None P Q h k = h
-told_and (Some x) (Some y) P Q h k = (h, k)
 
 -- no whole line was held before
 waited : (held_old held_new : List ℕ) (was is : Bool) (a b : Option (List ℕ)) → LacksLine held_old held_new was is a b → HasLine held_old → ⊥

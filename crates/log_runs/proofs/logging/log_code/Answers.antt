@@ -9,8 +9,9 @@ use Rattle.trace_ticks.specs.Formats.{format_for}
 use Rattle.trace_ticks.specs.KernelNames.{outputs_of, run_format}
 use Rattle.trace_ticks.specs.Ticking.{Starts}
 use Rattle.trace_ticks.specs.declared.format.Telling.TheVariants as telling
+use Rattle.trace_ticks.proofs.Following.{code_starts}
 use Rattle.trace_ticks.proofs.Printing.{own_else}
-use Rattle.log_runs.proofs.RunLemmas.{log_unrun, code_starts, log_unread, log_unkept, log_told}
+use Rattle.log_runs.proofs.RunLemmas.{log_unrun, log_unread, log_unkept, log_told}
 use Rattle.log_runs.proofs.logging.log_code.Given.{Over}
 use Rattle.log_runs.proofs.logging.log_code.Goals.{After-run}
 use Rattle.log_runs.proofs.logging.log_code.Goals as goal

@@ -2,9 +2,10 @@ use Rattle.std.proofs.Common.{◌≡◌, ◌+◌, ◌-◌, ◌++◌, ◌<◌, su
 use Rattle.exchange_meaning.specs.LogLines.{exchange_lines, thread_log_lines}
 use Rattle.exchange_log.specs.Lines.{pair_lines}
 use Rattle.exchange_log.specs.Posted.{log_in}
+use Rattle.exchange_log.proofs.TextLemmas.{log_length}
 use Rattle.whole_writes.proofs.Appending.{front_longer}
 use Rattle.log_runs.specs.Sending.{SendsBehind, head_line}
-use Rattle.log_runs.proofs.PairLemmas.{pairs_count, jobs_are, pair_added, thread_done, thread_split}
+use Rattle.log_runs.proofs.PairLemmas.{jobs_are, pair_added, thread_done, thread_split}
 use Rattle.log_runs.proofs.SendingLemmas.{sends_both, sends_front}
 use Rattle.log_runs.proofs.writing.write_thread.Given.{Over}
 use Rattle.log_runs.proofs.writing.write_thread.Goals.{After-jobs-jobs}
@@ -28,7 +29,7 @@ write_pair-requires-clause-pair g c =
     let tells = c.requires.tells in
     let k = c.args.thread - 1 in
     let replied = tells.replied k (omega (arith, c.requires.some, c.requires.thread)) in
-    omega (arith, c.loop-pair-test.true, c.jobs-jobs.ensures, pairs_count c.args.port.now.mail k replied)
+    omega (arith, c.loop-pair-test.true, c.jobs-jobs.ensures, log_length c.args.port.now.mail k replied)
 
 pub loop-pair-preserved : goal.loop-pair-preserved
 loop-pair-preserved g c =
