@@ -29,7 +29,7 @@ use Rattle.exchange_meaning.proofs.Sound.{tells_answered, log_of_same}
 use Rattle.exchange_meaning.proofs.TickLemmas.{Cut, tick_told}
 use Rattle.log_laws.specs.Laws.{EachRunHasALog}
 use Rattle.log_laws.proofs.EveryFork.{most_forks, each_fork_known}
-use Rattle.log_laws.proofs.LogLists.{LoggedPaused, MayBegin}
+use Rattle.log_laws.proofs.LogLists.{LoggedPaused, MayBegin, in_snoc}
 use Rattle.log_laws.proofs.SomeLog.{OwnAlone, ApartAlone, KnownAlone, Rested, gives_below}
 
 may_any : (ls : List Logged) (j : Job) → LoggedPaused ls → MayBegin ls j
@@ -136,11 +136,8 @@ module _ (k : PlainKernel) (fine : WellFormed k) where
     logged : AllButLastPause k Fresh turns → LogOfTicks k turns run_log
     logged pauses = record { ticks = pauses; log_of = log_of_same Solo (kernel_engine k) k.shape run_log below each (tick_jobs k Fresh turns) T (root.jobs ∙ r.jobs) root.used }
 
-    append_none : {A : Type 0} → (xs : List A) → xs ≡ xs ++ []
-    append_none xs = sym (append-nil xs)
-
     whole_cut : Cut k (branches_apart k fine) run_log T below fine.bodies fine.some (tells_answered Solo (kernel_engine k) k.shape run_log below each 0 T) T.exchanges [] T.outputs []
-    whole_cut = record { exchanges = append_none T.exchanges; outputs = append_none T.outputs; count = alone_length (kernel_engine k 0) T.exchanges Nothing T.outputs T.runs }
+    whole_cut = record { exchanges = sym (append-nil T.exchanges); outputs = sym (append-nil T.outputs); count = alone_length (kernel_engine k 0) T.exchanges Nothing T.outputs T.runs }
 
     some_last : (old : List TickInput) (t : TickInput) → turns ≡ old ++ t ∷ [] → (q : Reply) × (last_reply T.outputs ≡ Some q)
     some_last old t e = by T.outputs T.exchanges T.complete (alone_length (kernel_engine k 0) T.exchanges Nothing T.outputs T.runs)
@@ -165,10 +162,6 @@ module _ (k : PlainKernel) (fine : WellFormed k) where
         by (inl e) = subst (λ ts. MayBegin (run_log 0) (tick_job k (state_after k Fresh ts) turn)) (sym e) tt
         by (inr h) =
             may_any (run_log 0) _ (paused_before h.0 h.1 h.2 (pause_at k Fresh h.0 h.1 turn more (subst (λ ts. AllButLastPause k Fresh (ts ++ turn ∷ more)) h.2 pauses)))
-
-    in_snoc : (ls : List Logged) (l : Logged) → jobs_in (ls ++ l ∷ []) ≡ jobs_in ls ++ l.job ∷ []
-    in_snoc [] l = refl
-    in_snoc (m ∷ ls) l = ap (λ x. m.job ∷ x) (in_snoc ls l)
 
     -- one tick more
     ran_more : (turn : TickInput) (more : List TickInput) → AllButLastPause k Fresh (turns ++ turn ∷ more) → Ran (turns ++ turn ∷ [])

@@ -16,15 +16,12 @@ cond_or : (a b : Bool) → cond a true b ≡ false → (a ≡ false) × (b ≡ f
 cond_or true b e = absurd (let bad : true ≡ false = e in cc)
 cond_or false b e = (refl, e)
 
-never_both : (b : Bool) → b ≡ true → b ≡ false → ⊥
-never_both b e f = let bad : true ≡ false = sym e ∙ f in cc
-
 distinct_then : (l : List ℕ) (x : ℕ) → distinct l ≡ true → contains x l ≡ false → distinct (l ++ x ∷ []) ≡ true
 distinct_then [] x d n = refl
 distinct_then (y ∷ l) x d n =
     let once = cond_not (contains y l) (distinct l) d in
     let other = cond_or (y == x) (contains x l) n in
-    let apart : x ≢ y = λ e. never_both (y == x) (subst (λ z. (y == z) ≡ true) (sym e) (same_it y)) other.0 in
+    let apart : x ≢ y = λ e. (let bad : true ≡ false = sym (subst (λ z. (y == z) ≡ true) (sym e) (same_it y)) ∙ other.0 in cc) in
     ap (λ b. cond b false (distinct (l ++ x ∷ []))) (contains_not y l x once.0 apart) ∙ distinct_then l x once.1 other.1
 
 not_below : (n v : ℕ) → n ≤ v → contains v (numbers_below n) ≡ false

@@ -1,5 +1,5 @@
 -- The header of a trace, and the ticks that are replayed after it.
-use Rattle.std.proofs.Common.{◌≡◌, ◌≢◌, ℕ, Bool, false, List, [], ◌∷◌, ◌++◌, Option, Some, None, Ok, Err, refl, sym, ap, subst, ◌∙◌, append_assoc}
+use Rattle.std.proofs.Common.{◌≡◌, ◌≢◌, ℕ, Bool, false, List, [], ◌∷◌, ◌++◌, Option, Ok, Err, refl, sym, ap, subst, ◌∙◌, append_assoc}
 use Rattle.std.specs.Option.{IfSome}
 use Rattle.forec_kernel.specs.Composed.{TickInput}
 use Rattle.forec_kernel.specs.Shapes.{PlainKernel}
@@ -17,14 +17,9 @@ use Rattle.trace_ticks.specs.declared.format.Format.{Format}
 use Rattle.trace_ticks.proofs.Asking.{lines_behind, reads_then}
 use Rattle.trace_ticks.proofs.Heading.{Started, header_row, header_turns, printed_none, printed_rows}
 use Rattle.trace_ticks.proofs.Splitting.{no_line, whole_lines-line, came_told, takes_told}
-use Rattle.trace_ticks.proofs.Told.{told_both, told_map, told_some_both}
+use Rattle.trace_ticks.proofs.Told.{told_and, told_both, told_map, told_some_both}
 use Rattle.log_runs.specs.RootWalks.{turns_come, turns_given}
 use Rattle.log_runs.proofs.LinesOver.{given_none, given_rows}
-
-told_and : (a b : Option (List ℕ)) (P Q : List ℕ → List ℕ → Type 0) → IfTold a b P → IfTold a b Q → IfTold a b (λ x y. P x y × Q x y)
-told_and None b P Q h k = tt
-told_and (Some x) None P Q h k = h
-told_and (Some x) (Some y) P Q h k = (h, k)
 
 module _ (limit : ℕ) (how : Format) (k : PlainKernel) (b : ℕ) (inputs : List (List ℕ)) (same : inputs ≡ input_names k) where
   -- what holds of the ticks and the report after a header holds of all

@@ -107,9 +107,6 @@ none_done s last [] [] h = (refl, refl)
 none_done s last [] (o ∷ os) h = absurd h
 none_done s last (x ∷ xs) os h = absurd h
 
-append_none : {A : Type 0} → (xs : List A) → xs ≡ xs ++ []
-append_none xs = sym (append-nil xs)
-
 module _ (k : PlainKernel) (fine : WellFormed k) (below : (t b : ℕ) → HasBranch k.shape t b → (t < b) × (b < length k.shape.threads)) (log : ExchangeLog) (each : AllAgree (KernelAlone k) k.shape log) (own : (xs : List Exchange) (os : List Output) → KernelAlone k 0 xs os → AreTold k.shape 0 (pair_all xs os)) where
   abbrev Root : List TickInput → Type 0
   Root turns = RunsTicks (KernelAlone k) k.shape log turns
@@ -128,7 +125,7 @@ module _ (k : PlainKernel) (fine : WellFormed k) (below : (t b : ℕ) → HasBra
     rest_now = (left_by (kernel_engine k 0) T.exchanges Nothing T.outputs T.runs).rest
 
     whole_cut : Cut k (branches_apart k fine) log T below fine.bodies fine.some (tells_answered Solo (kernel_engine k) k.shape log below each 0 T) T.exchanges [] T.outputs []
-    whole_cut = record { exchanges = append_none T.exchanges; outputs = append_none T.outputs; count = alone_length (kernel_engine k 0) T.exchanges Nothing T.outputs T.runs }
+    whole_cut = record { exchanges = sym (append-nil T.exchanges); outputs = sym (append-nil T.outputs); count = alone_length (kernel_engine k 0) T.exchanges Nothing T.outputs T.runs }
 
     abbrev Said : Option Reply → Type 0
     Said last = Follows k (branches_apart k fine) log T below fine.bodies fine.some (tells_answered Solo (kernel_engine k) k.shape log below each 0 T) turns T.outputs last

@@ -8,7 +8,8 @@ use Rattle.exchange_meaning.specs.Logged.{Logged, ExchangeLog}
 use Rattle.exchange_meaning.specs.LogLines.{job_line, reply_line, exchange_lines, thread_log_lines, log_lines_from, log_text}
 use Rattle.exchange_log.specs.Kept.{HasParent, mail_words, words_of_end, words_of_jobs}
 use Rattle.exchange_log.specs.Lines.{pair_lines}
-use Rattle.exchange_log.specs.Posted.{both, log_in}
+use Rattle.exchange_log.specs.Posted.{log_in}
+use Rattle.exchange_log.proofs.TextLemmas.{log_length}
 use Rattle.log_runs.specs.Sending.{head_line}
 
 -- one pair more
@@ -35,14 +36,6 @@ threads_more from (suc n) log =
 
 -- ---- how many pairs there are
 
-both_count : (ps qs : List PlainPacket) → length qs ≡ length ps → length (both ps qs) ≡ length ps
-both_count [] qs e = refl
-both_count (p ∷ ps) [] e = absurd (let bad : 0 ≡ suc (length ps) = e in cc)
-both_count (p ∷ ps) (q ∷ qs) e = let rest : length qs ≡ length ps = cc in ap suc (both_count ps qs rest)
-
-pub pairs_count : (mail : Mail) (k : ℕ) → length (got mail k) ≡ length (sent mail k) → length (log_in mail (suc k)) ≡ length (sent mail k)
-pairs_count mail k e = both_count (sent mail k) (got mail k) e
-
 few_jobs : (ps : List PlainPacket) → length ps ≤ words_of_jobs ps
 few_jobs [] = omega arith
 few_jobs (p ∷ ps) = let ih = few_jobs ps in omega (arith, ih)
@@ -65,7 +58,7 @@ pub jobs_are : (mail : Mail) (words t jobs : ℕ) → mail_words mail.ends ≤ w
     jobs ≡ min (length (sent mail (t - 1))) (2 ^ 64 - 1) → jobs ≡ length (log_in mail t)
 jobs_are mail words t jobs kept small some parent replied is =
     let few : length (sent mail (t - 1)) ≤ mail_words mail.ends = subst (λ o. length (sent_by o) ≤ mail_words mail.ends) (sym parent.1) (few_sent mail.ends (t - 1) parent.0 parent.1) in
-    let count = pairs_count mail (t - 1) replied in
+    let count = log_length mail (t - 1) replied in
     let same = ap (λ (ls : List Logged). length ls) (same_thread mail t some) in
     omega (arith, is, few, kept, small, count, same)
 

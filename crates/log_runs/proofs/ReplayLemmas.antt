@@ -1,5 +1,5 @@
 -- What is told of a text before thread 0 is replayed.
-use Rattle.std.proofs.Common.{◌≡◌, ◌<◌, ℕ, suc, Bool, List, [], Option, inl, length, refl, sym, ap, subst, ◌∙◌}
+use Rattle.std.proofs.Common.{◌≡◌, ◌<◌, ℕ, suc, Bool, List, [], Option, inl, length, refl, sym, ap, subst}
 use Rattle.forec_kernel.specs.Engine.{Exchange, Output}
 use Rattle.forec_kernel.specs.Shapes.{PlainShape, PlainKernel}
 use Rattle.forec_kernel.specs.Solo.{KernelAlone}
@@ -18,6 +18,7 @@ use Rattle.trace_ticks.specs.Report.{Report}
 use Rattle.trace_ticks.specs.declared.status.Status.{Status}
 use Rattle.trace_ticks.specs.declared.status.Status.TheVariants as status
 use Rattle.trace_ticks.proofs.Printing.{prints_as, prints_nothing}
+use Rattle.log_runs.proofs.RootTicks.{to_code, to_kernel}
 
 -- ---- from a code to its kernel
 
@@ -26,21 +27,12 @@ up_to_as : (run run' : ℕ → List Exchange → List Output → Type 0) (s : Pl
 up_to_as run run' s log t m go h = record { tells = tells_as run run' s log t go h.tells; jobs = h.jobs; replies = h.replies }
 
 module _ (c : PlainCode) (k : PlainKernel) (fine : WellFormed k) (stands : Stands c k) where
-  count_is : length c.shape.threads ≡ length k.threads
-  count_is = ap (λ (s : PlainShape). length s.threads) stands.shape ∙ sym fine.bodies
-
-  to_kernel : (t : ℕ) → t < length c.shape.threads → (xs : List Exchange) (os : List Output) → CodeAlone c t xs os → KernelAlone k t xs os
-  to_kernel t lt xs os h = (stands.each t (subst (λ n. t < n) count_is lt) xs os).1 h
-
-  to_code : (t : ℕ) → t < length c.shape.threads → (xs : List Exchange) (os : List Output) → KernelAlone k t xs os → CodeAlone c t xs os
-  to_code t lt xs os h = (stands.each t (subst (λ n. t < n) count_is lt) xs os).0 h
-
   fails_here : (log : ExchangeLog) (t m : ℕ) → t < length c.shape.threads → FailsAt (CodeAlone c) c.shape log t m → FailsAt (KernelAlone k) c.shape log t m
   fails_here log t m lt f = record {
     within = f.within;
-    before = up_to_as (CodeAlone c) (KernelAlone k) c.shape log t m (to_kernel t lt) f.before;
-    job = λ less u. f.job less (up_to_as (KernelAlone k) (CodeAlone c) c.shape log t (suc m) (to_code t lt) u);
-    left = λ w. f.left (same_as (KernelAlone k) (CodeAlone c) c.shape log t (to_code t lt) w);
+    before = up_to_as (CodeAlone c) (KernelAlone k) c.shape log t m (to_kernel c k fine stands t lt) f.before;
+    job = λ less u. f.job less (up_to_as (KernelAlone k) (CodeAlone c) c.shape log t (suc m) (to_code c k fine stands t lt) u);
+    left = λ w. f.left (same_as (KernelAlone k) (CodeAlone c) c.shape log t (to_code c k fine stands t lt) w);
   }
 
   -- the last thread that fails is the kernel's
@@ -54,7 +46,7 @@ module _ (c : PlainCode) (k : PlainKernel) (fine : WellFormed k) (stands : Stand
           within = within;
           later = λ u after lt.
               let here = subst (λ (s : PlainShape). u < length s.threads) (sym stands.shape) lt in
-              subst (λ (s : PlainShape). AgreesWholly (KernelAlone k) s log u) stands.shape (same_as (CodeAlone c) (KernelAlone k) c.shape log u (to_kernel u here) (f.later u after here));
+              subst (λ (s : PlainShape). AgreesWholly (KernelAlone k) s log u) stands.shape (same_as (CodeAlone c) (KernelAlone k) c.shape log u (to_kernel c k fine stands u here) (f.later u after here));
           fails = subst (λ (s : PlainShape). FailsAt (KernelAlone k) s log t f.fails.before) stands.shape (fails_here log t f.fails.before f.within f.fails.fails);
         },
       )
@@ -76,16 +68,13 @@ module _ {S K : Type 0} (left : S → Option (List ℕ)) (faults : S → ℕ) (d
     trace = inl refl;
   }
 
-  never : status.Refused ≡ status.Usage → ⊥
-  never m = absurd (let bad : status.Refused ≡ status.Usage = m in cc)
-
   pub no_log_said : (s : PlainShape) (n : ℕ) (result : Status) → s ≡ k.shape → IsFirstBad s text n → PrintsReport held lost is_down (no_log n) (status.Refused ≡ status.Usage) out out' result → Rows result
   no_log_said s n result same bad p =
-      replay_said (no_log n) (status.Refused ≡ status.Usage) result (λ bytes. Of_no_log n (subst (λ (x : PlainShape). IsFirstBad x text n) same bad) refl) never p
+      replay_said (no_log n) (status.Refused ≡ status.Usage) result (λ bytes. Of_no_log n (subst (λ (x : PlainShape). IsFirstBad x text n) same bad) refl) (λ m. cc) p
 
   pub thread_said : (c : PlainCode) (t number : ℕ) (l : Log) (result : Status) → WellFormed k → Stands c k → (from : IsReadFrom c.shape text l) → FailsLastIn c from.log t number →
       PrintsReport held lost is_down (differing [] t number) (status.Refused ≡ status.Usage) out out' result → Rows result
   thread_said c t number l result fine stands from f p =
       let w = fails_last c k fine stands from.log t number f in
       let is = subst (λ (s : PlainShape). IsLogOf s from.log text) stands.shape (subst (IsLogOf c.shape from.log) from.same from.pairs.is) in
-      replay_said (differing [] t number) (status.Refused ≡ status.Usage) result (λ bytes. Of_thread from.log t w.0 is w.2 (ap (λ n. differing [] t n) w.1)) never p
+      replay_said (differing [] t number) (status.Refused ≡ status.Usage) result (λ bytes. Of_thread from.log t w.0 is w.2 (ap (λ n. differing [] t n) w.1)) (λ m. cc) p

@@ -46,18 +46,19 @@ once_replayed c l k log holds before after turn o values outputs same ticks =
 
 -- ---- from a code to its kernel, and back
 
-module _ (c : PlainCode) (l : Log) (k : PlainKernel) (log : ExchangeLog) (holds : IsHeldTo c l k log) where
+module _ (c : PlainCode) (k : PlainKernel) (formed : WellFormed k) (stands : Stands c k) where
   count_is : length c.shape.threads ≡ length k.threads
-  count_is = ap (λ (s : PlainShape). length s.threads) holds.stands.shape ∙ sym holds.formed.bodies
+  count_is = ap (λ (s : PlainShape). length s.threads) stands.shape ∙ sym formed.bodies
 
   pub to_kernel : (t : ℕ) → t < length c.shape.threads → (xs : List Exchange) (os : List Output) → CodeAlone c t xs os → KernelAlone k t xs os
-  to_kernel t lt xs os h = (holds.stands.each t (subst (λ n. t < n) count_is lt) xs os).1 h
+  to_kernel t lt xs os h = (stands.each t (subst (λ n. t < n) count_is lt) xs os).1 h
 
   pub to_code : (t : ℕ) → t < length c.shape.threads → (xs : List Exchange) (os : List Output) → KernelAlone k t xs os → CodeAlone c t xs os
-  to_code t lt xs os h = (holds.stands.each t (subst (λ n. t < n) count_is lt) xs os).0 h
+  to_code t lt xs os h = (stands.each t (subst (λ n. t < n) count_is lt) xs os).0 h
 
+module _ (c : PlainCode) (l : Log) (k : PlainKernel) (log : ExchangeLog) (holds : IsHeldTo c l k log) where
   abbrev pub kernel_runs : (turns : List TickInput) → RunsTicks (CodeAlone c) c.shape log turns → RunsTicks (KernelAlone k) c.shape log turns
-  kernel_runs turns h = record { tells = tells_as (CodeAlone c) (KernelAlone k) c.shape log 0 (to_kernel 0 holds.valid.shape.some) h.tells; ticks = h.ticks }
+  kernel_runs turns h = record { tells = tells_as (CodeAlone c) (KernelAlone k) c.shape log 0 (to_kernel c k holds.formed holds.stands 0 holds.valid.shape.some) h.tells; ticks = h.ticks }
 
   pub runs_kernel : (turns : List TickInput) → RunsTicks (CodeAlone c) c.shape log turns → RunsTicks (KernelAlone k) k.shape log turns
   runs_kernel turns h = subst (λ (s : PlainShape). RunsTicks (KernelAlone k) s log turns) holds.stands.shape (kernel_runs turns h)
@@ -65,7 +66,7 @@ module _ (c : PlainCode) (l : Log) (k : PlainKernel) (log : ExchangeLog) (holds 
   pub runs_code : (turns : List TickInput) → RunsTicks (KernelAlone k) k.shape log turns → RunsTicks (CodeAlone c) c.shape log turns
   runs_code turns h =
       let g = subst (λ (s : PlainShape). RunsTicks (KernelAlone k) s log turns) (sym holds.stands.shape) h in
-      record { tells = tells_as (KernelAlone k) (CodeAlone c) c.shape log 0 (to_code 0 holds.valid.shape.some) g.tells; ticks = g.ticks }
+      record { tells = tells_as (KernelAlone k) (CodeAlone c) c.shape log 0 (to_code c k holds.formed holds.stands 0 holds.valid.shape.some) g.tells; ticks = g.ticks }
 
   pub each_kernel : AllAgree (KernelAlone k) k.shape log
-  each_kernel = subst (λ (s : PlainShape). AllAgree (KernelAlone k) s log) holds.stands.shape (λ t some lt. same_as (CodeAlone c) (KernelAlone k) c.shape log t (to_kernel t lt) (holds.each t some lt))
+  each_kernel = subst (λ (s : PlainShape). AllAgree (KernelAlone k) s log) holds.stands.shape (λ t some lt. same_as (CodeAlone c) (KernelAlone k) c.shape log t (to_kernel c k holds.formed holds.stands t lt) (holds.each t some lt))

@@ -25,7 +25,7 @@ use Rattle.trace_ticks.proofs.NextRows.{Gave}
 use Rattle.trace_ticks.proofs.Running.{Is, Reached, Run, front_cut, printed_by, turn_of, whole_now}
 use Rattle.trace_ticks.proofs.Splitting.{told_of}
 use Rattle.whole_writes.proofs.Appending.{front_behind}
-use Rattle.trace_ticks.proofs.Told.{some_map, told_both, told_refl, told_some}
+use Rattle.trace_ticks.proofs.Told.{some_and, some_map, told_both, told_refl, told_some}
 use Rattle.log_runs.specs.RootWalks.{DiffersAt, HasWalked, RootRuns, WasCut}
 
 -- the status after the last tick is a report's own
@@ -41,10 +41,6 @@ own_after o s e = subst (λ (x : Status). IsOwn x × (x ≢ status.Usage)) (sym 
 pub some_all : (o : Option (List ℕ)) (P : List ℕ → Type 0) → ((x : List ℕ) → P x) → IfSome o P
 some_all None P f = tt
 some_all (Some x) P f = f x
-
-some_and : (o : Option (List ℕ)) (P Q : List ℕ → Type 0) → IfSome o P → IfSome o Q → IfSome o (λ x. P x × Q x)
-some_and None P Q h k = tt
-some_and (Some x) P Q h k = (h, k)
 
 -- what reads gave is what the source has no more
 reads_told : {S : Type 0} (left : S → Option (List ℕ)) (faults : S → ℕ) (down : S → Bool) (May : List ℕ → Type 0) (old : S) {given : List ℕ} {new : S} → ReadsBytes left faults down May old given new →

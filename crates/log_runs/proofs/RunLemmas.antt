@@ -2,13 +2,10 @@
 use Rattle.std.specs.Bool.{⊤}
 use Rattle.std.specs.Option.{IfSome}
 use Rattle.std.proofs.Common.{◌≡◌, ◌<◌, ℕ, Bool, false, List, [], Option, unwrap_or, length, refl, sym, ap, subst, ◌∙◌}
-use Rattle.forec_kernel.specs.Composed.{TickInput, tick_jobs}
+use Rattle.forec_kernel.specs.Composed.{tick_jobs}
 use Rattle.forec_kernel.specs.Engine.{Job}
 use Rattle.forec_kernel.specs.Shapes.{PlainShape, PlainKernel}
 use Rattle.forec_kernel.specs.Ticks.{Fresh}
-use Rattle.forec_kernel.specs.WellFormed.{WellFormed}
-use Rattle.thread_code.specs.Alone.{Stands}
-use Rattle.thread_code.specs.Plain.{PlainCode}
 use Rattle.copy_slots.specs.Ports.{ChildIs}
 use Rattle.tick_jobs.specs.Ticks.{HasRun as Ran}
 use Rattle.core_seats.specs.Posts.{HasPosted, HasPostedTaken}
@@ -25,7 +22,6 @@ use Rattle.trace_ticks.specs.KernelNames.{run_format}
 use Rattle.trace_ticks.specs.Led.{IsTold, RunsRows}
 use Rattle.trace_ticks.specs.Prints.{Prints}
 use Rattle.trace_ticks.specs.Report.{Report, trace_turns}
-use Rattle.trace_ticks.specs.Ticking.{Starts}
 use Rattle.trace_ticks.specs.declared.format.Format.{Format}
 use Rattle.trace_ticks.specs.declared.format.Telling.TheVariants as telling
 use Rattle.trace_ticks.specs.declared.status.Status.{Status}
@@ -39,13 +35,6 @@ pub log_unrun : {S K : Type 0} (left : S → Option (List ℕ)) (faults : S → 
 log_unrun {S} {K} left faults down held lost is_down limit k budget old new out out' same kept = record {
   prints = prints_nothing held lost is_down _ _ _ _ _ out out' (rw kept refl);
   trace = subst (λ (t : S). ReadFor left faults down limit (run_format telling.Report k) k budget old t) (sym same) ([], none);
-}
-
--- a code is followed from its start
-pub code_starts : (c now : PlainCode) (Has : List TickInput → Type 0) (k : PlainKernel) → now ≡ c → WellFormed k → Stands c k → Has [] → Starts now.shape (CodeFollows now Has) k
-code_starts c now Has k is formed stands fresh = record {
-  shaped = sym stands.shape ∙ ap (λ (p : PlainCode). p.shape) (sym is);
-  fresh = record { formed = formed; stands = subst (λ (p : PlainCode). Stands p k) (sym is) stands; ran = fresh };
 }
 
 -- what went through a host's mailboxes is the log of its ticks

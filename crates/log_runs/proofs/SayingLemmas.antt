@@ -1,5 +1,5 @@
 -- A line behind bytes that were written.
-use Rattle.std.proofs.Common.{◌≡◌, ◌≢◌, ◌≤◌, ℕ, Bool, List, ◌++◌, Option, refl, sym, ap, subst, ◌∙◌, arith}
+use Rattle.std.proofs.Common.{◌≡◌, ◌≢◌, ◌≤◌, ℕ, Bool, List, ◌++◌, Option, refl, sym, ap, subst, ◌∙◌}
 use Rattle.std.specs.Io.KnownBytes.{Appends}
 use Rattle.forec_base.specs.Outside.{Fell}
 use Rattle.whole_writes.specs.Calls.{AppendsFront}
@@ -10,9 +10,7 @@ use Rattle.trace_ticks.specs.declared.status.Status.{Status}
 use Rattle.trace_ticks.specs.declared.status.Status.TheVariants as status
 use Rattle.whole_writes.proofs.Appending.{appends_both, front_behind, front_longer}
 use Rattle.trace_ticks.proofs.Printing.{prints_front}
-
-fell_since : (before mid now : ℕ) (d : Bool) → before ≤ mid → Fell mid now d → Fell before now d
-fell_since before mid now d le f = let r = f.rose in record { rose = omega arith; down = f.down }
+use Rattle.trace_ticks.proofs.Running.{fell_since}
 
 module _ {K : Type 0} (held : K → Option (List ℕ)) (lost : K → ℕ) (is_down : K → Bool) (before line : List ℕ) (end : Status) (out mid out' : K) where
   abbrev whole : Report

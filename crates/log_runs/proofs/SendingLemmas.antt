@@ -1,10 +1,13 @@
 -- What was sent and what waits, over several calls.
-use Rattle.std.proofs.Common.{◌≡◌, ℕ, List, [], ◌++◌, Option, Result, Ok, Err, refl, sym, ap, subst, ◌∙◌, append_assoc, append-nil}
+use Rattle.std.proofs.Common.{◌≡◌, ◌+◌, ◌-◌, ◌<◌, ◌≤◌, ℕ, List, [], ◌++◌, Option, Result, Ok, Err, refl, sym, ap, subst, ◌∙◌, append_assoc, append-nil}
 use Rattle.std.specs.Result.{OnErr}
 use Rattle.std.specs.Io.KnownBytes.{Appends}
+use Rattle.exchange_meaning.specs.Logged.{ExchangeLog}
+use Rattle.exchange_meaning.specs.LogLines.{thread_log_lines, log_lines_from, log_text}
 use Rattle.whole_writes.specs.Calls.{AppendsFront}
 use Rattle.whole_writes.proofs.Appending.{appends_both, appends_refl, front_behind, front_longer}
 use Rattle.log_runs.specs.Sending.{SendsBehind}
+use Rattle.log_runs.proofs.PairLemmas.{log_done, log_split}
 
 -- nothing was sent
 pub sends_none : (held : Option (List ℕ)) (waited : List ℕ) → SendsBehind held held waited waited []
@@ -48,3 +51,18 @@ sends_part a b c first middle x y all rest s is f =
 pub err_map : {T E : Type 0} (r : Result T E) (P Q : Type 0) → OnErr r P → (P → Q) → OnErr r Q
 err_map (Ok x) P Q h f = tt
 err_map (Err e) P Q h f = f h
+
+-- ---- a log whose threads before thread t were sent, or wait where nothing waited before
+
+module _ (log : ExchangeLog) (threads t : ℕ) (a b c : Option (List ℕ)) (first middle : List ℕ) (empty : first ≡ []) (s : SendsBehind a b first middle (log_lines_from 1 (t - 1) log)) where
+  whole : AppendsFront a c (first ++ log_text threads log) → AppendsFront a c (log_text threads log)
+  whole f = subst (AppendsFront a c) (ap (λ (w : List ℕ). w ++ log_text threads log) empty) f
+
+  -- a fault in the lines of thread t
+  pub log_cut : 1 ≤ t → t < threads → AppendsFront b c (middle ++ thread_log_lines t (log t)) → AppendsFront a c (log_text threads log)
+  log_cut some lt f =
+      whole (sends_part a b c first middle (log_lines_from 1 (t - 1) log) (thread_log_lines t (log t)) (log_text threads log) (log_lines_from (1 + (t + 1 - 1)) (threads - 1 - t) log) s (log_split log threads t some lt) f)
+
+  -- a fault behind the last thread
+  pub log_held : t ≤ threads → threads ≤ t → AppendsFront b c middle → AppendsFront a c (log_text threads log)
+  log_held le ge f = whole (sends_front a b c first middle (log_lines_from 1 (t - 1) log) (log_text threads log) [] s (log_done log threads t le ge) f)

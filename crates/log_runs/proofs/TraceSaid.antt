@@ -35,9 +35,6 @@ use Rattle.log_runs.proofs.RootTicks.{each_kernel, kernel_runs, runs_code, runs_
 use Rattle.log_runs.proofs.SomeReplay.{some_replay}
 use Rattle.log_runs.proofs.TraceWalks.{WalkSays}
 
-never : status.Refused ≡ status.Usage → ⊥
-never m = absurd (let bad : status.Refused ≡ status.Usage = m in cc)
-
 module _ {S K : Type 0} (left : S → Option (List ℕ)) (faults : S → ℕ) (down : S → Bool) (held : K → Option (List ℕ)) (lost : K → ℕ) (is_down : K → Bool) (c : PlainCode) (l : Log) (k : PlainKernel) (log : ExchangeLog) (holds : IsHeldTo c l k log)
     (text : List ℕ) (is : IsLogOf k.shape log text) (limit budget : ℕ) (r : Replayer) (old new : S) (out mid : K) (waiting : List ℕ) where
   abbrev how : Format
@@ -56,7 +53,7 @@ module _ {S K : Type 0} (left : S → Option (List ℕ)) (faults : S → ℕ) (d
   own xs os alone =
       let some = holds.valid.shape.some in
       let count = holds.valid.threads in
-      subst (λ (s : PlainShape). AreTold s 0 (pair_all xs os)) holds.stands.shape (all_mine c 0 holds.valid (omega (arith, some, count)) xs os (to_code c l k log holds 0 some xs os alone))
+      subst (λ (s : PlainShape). AreTold s 0 (pair_all xs os)) holds.stands.shape (all_mine c 0 holds.valid (omega (arith, some, count)) xs os (to_code c k holds.formed holds.stands 0 some xs os alone))
 
   runs_over : (came : List ℕ) → RootRuns c log (turns_given limit k budget came) → RunsOver limit k budget log came
   runs_over came h = runs_kernel c l k log holds (turns_given limit k budget came) h
@@ -116,7 +113,7 @@ module _ {S K : Type 0} (left : S → Option (List ℕ)) (faults : S → ℕ) (d
 
     pub root_differs : (n : ℕ) → Says_so (walked.Differs n) → PrintsReport held lost is_down (differing waiting 0 n) (status.Refused ≡ status.Usage) mid out' result → Rows out' result
     root_differs n w p = record {
-      prints = said_after held lost is_down (IsTold (left old)) (IsTraceReplay limit k budget text (left old)) _ (differing waiting 0 n) (status.Refused ≡ status.Usage) out mid out' result w.later never some p (λ t.
+      prints = said_after held lost is_down (IsTold (left old)) (IsTraceReplay limit k budget text (left old)) _ (differing waiting 0 n) (status.Refused ≡ status.Usage) out mid out' result w.later (λ m. cc) some p (λ t.
           let d = told_is (left old) _ t.0 w.went t.1 in (
             d.sent,
             d.appended,
@@ -139,7 +136,7 @@ module _ {S K : Type 0} (left : S → Option (List ℕ)) (faults : S → ℕ) (d
     pub root_left : (used : Bool) (ticks n : ℕ) (end : Status) → used ≡ false → n ≡ ticks + 1 → ((turns : List TickInput) → UsesAll c l log r turns used) → Says_so (walked.Whole ticks end) →
         PrintsReport held lost is_down (differing waiting 0 n) (status.Refused ≡ status.Usage) mid out' result → Rows out' result
     root_left used ticks n end off number uses w p = record {
-      prints = said_after held lost is_down (IsTold (left old)) (IsTraceReplay limit k budget text (left old)) _ (differing waiting 0 n) (status.Refused ≡ status.Usage) out mid out' result w.later never some p (λ t.
+      prints = said_after held lost is_down (IsTold (left old)) (IsTraceReplay limit k budget text (left old)) _ (differing waiting 0 n) (status.Refused ≡ status.Usage) out mid out' result w.later (λ m. cc) some p (λ t.
           let d = told_is (left old) _ t.0 w.went t.1 in
           let turns = trace_turns limit k budget t.0 in
           let all = (trace_report limit how k budget t.0).bytes in

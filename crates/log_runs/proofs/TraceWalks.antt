@@ -1,5 +1,5 @@
 -- A walk over a trace, by how its header and its rows ended.
-use Rattle.std.proofs.Common.{◌≡◌, ◌≤◌, ℕ, Bool, List, [], ◌++◌, Option, Some, None, length, refl, sym, ap, subst, ◌∙◌}
+use Rattle.std.proofs.Common.{◌≡◌, ◌≤◌, ℕ, Bool, List, [], ◌++◌, Option, length, refl, sym, ap, subst, ◌∙◌}
 use Rattle.std.specs.Option.{IfSome}
 use Rattle.std.specs.Io.KnownBytes.{Appends}
 use Rattle.forec_base.specs.Outside.{Fell}
@@ -19,7 +19,7 @@ use Rattle.trace_ticks.specs.declared.format.Format.{Format}
 use Rattle.trace_ticks.specs.declared.status.Status.{Status}
 use Rattle.trace_ticks.specs.declared.status.Status.TheVariants as status
 use Rattle.whole_writes.proofs.Appending.{appends_refl}
-use Rattle.trace_ticks.proofs.Told.{some_map}
+use Rattle.trace_ticks.proofs.Told.{some_and, some_map}
 use Rattle.log_runs.specs.RootWalks.{EndsBy, GivenRuns, HasWalked, MayRead, WalkedTo}
 use Rattle.log_runs.specs.declared.replaying.Walked.{Walked}
 use Rattle.log_runs.specs.declared.replaying.Walked.TheVariants as walked
@@ -42,10 +42,6 @@ ends_as A A' B C C' f g (walked.Failed status.Full) h = h
 -- it has run at most so many ticks
 pub few_of : (A B C : Type 0) (w : Walked) (number : ℕ) (end : Status) → w ≡ walked.Whole number end → EndsBy A B C w → number ≤ MAX_ROWS
 few_of A B C w number end e h = let ends = subst (EndsBy A B C) e h in ends.2
-
-some_and : (o : Option (List ℕ)) (P Q : List ℕ → Type 0) → IfSome o P → IfSome o Q → IfSome o (λ x. P x × Q x)
-some_and None P Q h k = tt
-some_and (Some x) P Q h k = (h, k)
 
 -- no header came, and so no tick was run
 pub none_walked : (limit : ℕ) (how : Format) (k : PlainKernel) (b : ℕ) (Has : List TickInput → Type 0) (l h : Option (List ℕ)) (f : RowFault) (opened waiting : List ℕ) → Has [] → opened ≡ opening how → waiting ≡ opened ++ last_written how (row_words 0 f) →

@@ -86,11 +86,11 @@ pub record Going {S : Type 0} (left : S → Option (List ℕ)) (faults : S → �
   pub covers : now.ended ≡ false → Covers run now pace turns given
 
 pub going_start : {S : Type 0} (left : S → Option (List ℕ)) (faults : S → ℕ) (down : S → Bool) (Runs : List TickInput → Type 0) (run : Run) (F : List TickInput → Type 0) (held : Option (List ℕ)) (unsent : List ℕ) (s : S) → F [] →
-    Stands_at run.first 1 run.first → unsent ≡ opening run.format → Going left faults down Runs run F run.first held held unsent run.format 1 s s
-going_start left faults down Runs run F held unsent s f at z = record {
+    run.first.given ≡ 0 → unsent ≡ opening run.format → Going left faults down Runs run F run.first held held unsent run.format 1 s s
+going_start left faults down Runs run F held unsent s f e z = record {
   turns = [];
   state = Fresh;
-  reached = reached_start run F (left s) held unsent f at z;
+  reached = reached_start run F (left s) held unsent f e z;
   pace = record { state = Fresh; next = 1; form = run.first.form; format = run.format; bytes = [] };
   same = refl;
   next = refl;

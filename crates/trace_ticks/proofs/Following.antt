@@ -1,20 +1,17 @@
 -- A tick more of a program that runs.
-use Rattle.std.proofs.Common.{◌≡◌, ℕ, ℤ, List, [], ◌∷◌, ◌++◌, refl, sym, ap, subst, ◌∙◌}
+use Rattle.std.proofs.Common.{◌≡◌, ℕ, ℤ, List, [], ◌∷◌, ◌++◌, sym, ap, subst, ◌∙◌}
 use Rattle.forec_kernel.specs.declared.shape.Outcome.{Outcome}
 use Rattle.forec_kernel.specs.Composed.{TickInput, next_state, state_after}
 use Rattle.forec_kernel.specs.Shapes.{PlainKernel}
 use Rattle.forec_kernel.specs.Ticks.{TickState, Fresh, tick}
 use Rattle.forec_kernel.specs.WellFormed.{WellFormed}
+use Rattle.forec_kernel.proofs.KeptCopies.{state_then}
 use Rattle.thread_code.specs.Alone.{Stands}
 use Rattle.thread_code.specs.Plain.{PlainCode}
 use Rattle.trace_ticks.specs.Following.{CodeFollows}
 use Rattle.trace_ticks.specs.Ticking.{tick_after, RunsOnce, Starts}
 use Rattle.tick_jobs.specs.Outcomes.{HasOutputs}
 use Rattle.tick_jobs.specs.Ticks.{Ticking, HasRun, RunsTick}
-
-state_then : (k : PlainKernel) (turns : List TickInput) (last : TickInput) (old : TickState) → state_after k old (turns ++ last ∷ []) ≡ next_state k (state_after k old turns) last
-state_then k [] last old = refl
-state_then k (turn ∷ turns) last old = state_then k turns last (next_state k old turn)
 
 -- a state that the ticks so far have led to
 module _ (k : PlainKernel) (turns : List TickInput) (turn : TickInput) (s : TickState) (led : s ≡ state_after k Fresh turns) where

@@ -1,6 +1,7 @@
 pub mod Advancing
 pub mod AfterHeader
 pub mod Asking
+pub mod AtRow
 pub mod EndLemmas
 pub mod Following
 pub mod Heading

@@ -1,5 +1,5 @@
 -- What is found where the next row stands.
-use Rattle.std.proofs.Common.{◌≡◌, ◌≢◌, ℕ, ◌+◌, ◌<◌, false, List, Option, Some, Result, Ok, Err, refl}
+use Rattle.std.proofs.Common.{◌≡◌, ◌≢◌, ℕ, ◌+◌, ◌<◌, true, false, List, Option, Some, Result, Ok, Err, refl}
 use Rattle.trace_rows.specs.Calls.{IfTold}
 use Rattle.trace_rows.specs.Reader.{Reader, Takes, NextTakes, NextSays, NextLeaves, trace_ahead}
 use Rattle.trace_rows.specs.Trace.{Row, next_form, row_at, row_width, stop, onto}
@@ -18,13 +18,14 @@ pub record Gave (old new : Reader) (left_old left_new : Option (List ℕ)) (row 
   pub within : old.given < old.limit
   pub count : new.given ≡ old.given + 1
   pub most : new.limit ≡ old.limit
+  pub live : new.live ≡ true
   pub form : new.form ≡ next_form old.form row
   pub width : row_width new.form ≡ row_width old.form
 
 -- what a call says that gave it
-pub gave_row : (old new : Reader) (row_old row : Row) (a b : Option (List ℕ)) → NextTakes old new row a b (Ok next.Row) → IfTold a b (NextSays old new row (Ok next.Row)) → NextLeaves old new row_old row (Ok next.Row) →
+pub gave_row : (old new : Reader) (row : Row) (a b : Option (List ℕ)) → NextTakes old new row a b (Ok next.Row) → IfTold a b (NextSays old new row (Ok next.Row)) → NextLeaves old new row row (Ok next.Row) →
     new.limit ≡ old.limit → (new.ended ≡ false → old.ended ≡ false) → Gave old new a b row
-gave_row old new row_old row a b takes says leaves same stays = record {
+gave_row old new row a b takes says leaves same stays = record {
   line = takes.0;
   is = takes.1;
   takes = takes.2;
@@ -33,6 +34,7 @@ gave_row old new row_old row a b takes says leaves same stays = record {
   within = leaves.0;
   count = leaves.1;
   most = same;
+  live = leaves.2;
   form = leaves.3;
   width = leaves.4;
 }

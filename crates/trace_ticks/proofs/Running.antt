@@ -1,5 +1,5 @@
 -- A run, tick by tick.
-use Rattle.std.proofs.Common.{◌≡◌, ◌≢◌, ℕ, ◌+◌, ◌-◌, ◌≤◌, Bool, true, false, List, [], ◌∷◌, ◌++◌, Option, Some, None, Ok, refl, sym, ap, subst, ◌∙◌, arith, append_assoc, append-nil, ◌<◌, inl, inr, length, get_or, length-append, map}
+use Rattle.std.proofs.Common.{◌≡◌, ◌≢◌, ℕ, ◌+◌, ◌-◌, ◌≤◌, Bool, true, false, List, [], ◌∷◌, ◌++◌, Option, Some, None, Result, Ok, Err, refl, sym, ap, subst, ◌∙◌, arith, append_assoc, append-nil, ◌<◌, inl, inr, length, get_or, length-append, map}
 use Rattle.std.specs.List.{position_or_len}
 use Rattle.std.proofs.lemmas.Bool.{cases_lt}
 use Rattle.std.proofs.lemmas.List.{get_or_append_left}
@@ -15,9 +15,11 @@ use Rattle.forec_kernel.specs.Ticks.{TickState, Fresh, Tick, tick, goes_on, run_
 use Rattle.tick_jobs.specs.Outcomes.{HasOutputs}
 use Rattle.trace_rows.specs.Calls.{IfTold}
 use Rattle.trace_rows.specs.Lines.{is_newline, whole_lines}
-use Rattle.trace_rows.specs.Reader.{Reader, HasLine, LacksLine, trace_ahead}
+use Rattle.trace_rows.specs.Reader.{Reader, HasLine, LacksLine, NextSays, trace_ahead}
 use Rattle.trace_rows.specs.Trace.{Row, Form, TraceEnd, Trace, stop, onto, row_at, row_width}
+use Rattle.trace_rows.specs.declared.fault.Next.{Next}
 use Rattle.trace_rows.specs.declared.fault.RowFault.{RowFault}
+use Rattle.trace_rows.specs.declared.fault.RowFault.TheVariants as fault
 use Rattle.whole_writes.specs.Calls.{AppendsFront}
 use Rattle.trace_ticks.specs.Ends.{Given}
 use Rattle.trace_ticks.specs.Report.{Report, Pace, printed_before, outcome_lines, tick_lines, lines_from, last_outcome, ending, behind_bytes, report_from, turns_from, status_after, advance}
@@ -26,12 +28,13 @@ use Rattle.trace_ticks.specs.Formats.{opening, format_after, last_written}
 use Rattle.trace_ticks.specs.declared.format.Format.{Format}
 use Rattle.trace_ticks.specs.Progress.{IsWholeReport, IsReportFront, Led, report_rest, turns_rest}
 use Rattle.trace_ticks.specs.Ticking.{tick_after}
+use Rattle.trace_ticks.specs.declared.session.Session.{Session}
 use Rattle.trace_ticks.specs.declared.status.Status.{Status}
 use Rattle.trace_ticks.specs.declared.status.Status.TheVariants as status
 use Rattle.trace_ticks.proofs.Following.{led_on, outcome_at, outputs_at}
 use Rattle.whole_writes.proofs.Appending.{appends_both, front_longer, front_behind, appends_refl}
-use Rattle.trace_ticks.proofs.Told.{told_both, told_refl, told_some, some_map}
-use Rattle.trace_ticks.proofs.NextRows.{Gave}
+use Rattle.trace_ticks.proofs.Told.{told_and, told_both, told_refl, told_some, some_map}
+use Rattle.trace_ticks.proofs.NextRows.{Gave, stops_there}
 use Rattle.trace_ticks.proofs.Advancing.{turns_on, turns_stop, report_step, behind_twice, PausesAtRow, advance_more, pace_after, paused, printed_after, run_on, run_stops}
 use Rattle.trace_ticks.proofs.Splitting.{Cut, no_line, whole_lines-line, came_told, takes_told}
 
@@ -42,6 +45,10 @@ pub record Run : Type 0 where
   pub budget : ℕ
   pub first : Reader
 
+-- a kernel, run over the rows that a reader has ahead, as a session says
+abbrev pub run_of : Session → Reader → PlainKernel → Run
+run_of s first k = record { format = s.waiting.format; kernel = k; budget = s.budget; first = first }
+
 -- a tick over this row
 abbrev pub turn_of : Run → Row → TickInput
 turn_of run values = record { row = values; budget = run.budget }
@@ -51,6 +58,10 @@ pub record Stands_at (first : Reader) (row : ℕ) (now : Reader) : Type 0 where
   pub limit : now.limit ≡ first.limit
   pub width : row_width now.form ≡ row_width first.form
   pub number : now.given + 1 ≡ row
+
+-- before its first one
+pub stands_first : (first : Reader) → first.given ≡ 0 → Stands_at first 1 first
+stands_first first e = record { limit = refl; width = refl; number = ap (λ n. n + 1) e }
 
 -- the bytes that were taken are whole lines, which led a kernel from its start to a pace
 pub record Taken (how : Format) (k : PlainKernel) (budget : ℕ) (first now : Reader) (p : Pace) (left_old left_new : List ℕ) : Type 0 where
@@ -156,12 +167,12 @@ leads_start run x = record {
   taken = λ _. record { given = []; split = refl; lines = []; whole = λ more. refl; rest = record { state = Fresh; next = 1; form = run.first.form; format = run.format; bytes = [] }; led = refl; behind = refl };
 }
 
-pub reached_start : (run : Run) (F : List TickInput → Type 0) (left held : Option (List ℕ)) (unsent : List ℕ) → F [] → Stands_at run.first 1 run.first → unsent ≡ opening run.format →
+pub reached_start : (run : Run) (F : List TickInput → Type 0) (left held : Option (List ℕ)) (unsent : List ℕ) → F [] → run.first.given ≡ 0 → unsent ≡ opening run.format →
     Reached run F [] Fresh run.first left left held held unsent run.format 1
-reached_start run F left h unsent f at z = record {
+reached_start run F left h unsent f e z = record {
   follows = f;
   ticked = ticked_start run;
-  stands = at;
+  stands = stands_first run.first e;
   sent = [];
   appended = appends_refl h;
   split = append-nil (opening run.format) ∙ sym z;
@@ -237,10 +248,17 @@ taken_more run now new p line values x y z t cut is on = record {
   behind = ap (λ (q : Pace). pace_after run.kernel run.budget q values) t.behind ∙ sym (printed_after run.kernel run.budget (opening run.format) t.rest values);
 }
 
-told_and : (a b : Option (List ℕ)) (P Q : List ℕ → List ℕ → Type 0) → IfTold a b P → IfTold a b Q → IfTold a b (λ x y. P x y × Q x y)
-told_and None b P Q h k = tt
-told_and (Some x) None P Q h k = h
-told_and (Some x) (Some y) P Q h k = (h, k)
+-- no whole line was held before
+waited : (held_old held_new : List ℕ) (was is : Bool) (a b : Option (List ℕ)) → LacksLine held_old held_new was is a b → HasLine held_old → ⊥
+waited held_old held_new was is a b w has =
+    let at = position_or_len is_newline held_old in
+    let yes : is_newline (get_or held_old at 0) ≡ true = passes_at_first is_newline held_old 0 has in
+    let longer : length held_old ≤ length held_new = subst (λ l. length held_old ≤ length l) (sym w.came.held) (omega (arith, length-append held_old w.came.bytes)) in
+    let far : at < position_or_len is_newline held_new =
+    elim (cases_lt at (position_or_len is_newline held_new)) [ inl h ↦ h | inr h ↦ absurd (w.none (omega (arith, has, longer, h))) ] in
+    let no : is_newline (get_or held_new at 0) ≡ false = fails_before_first is_newline held_new at 0 far in
+    let same : get_or held_new at 0 ≡ get_or held_old at 0 = ap (λ l. get_or l at 0) w.came.held ∙ get_or_append_left held_old w.came.bytes 0 at has in
+    let both : true ≡ false = sym yes ∙ ap is_newline (sym same) ∙ no in cc
 
 -- ---- where a run has come to
 
@@ -289,16 +307,17 @@ module _ {run : Run} {F : List TickInput → Type 0} {turns : List TickInput} {s
       stops_at l' None (record { bytes = last_written how (rows_words (row - 1)); status = status.Done }) n
       (report_none how run.kernel run.budget s row (now.given + 1) ∙ ap (λ m. record { bytes = last_written how (rows_words (m - 1)); status = status.Done }) r.stands.number)
 
-  pub at_fault : (l' : Option (List ℕ)) (f : RowFault) → IfTold l l' (λ x y. trace_ahead now x ≡ stop (Some f) (now.given + 1)) →
+  pub at_fault : (new : Reader) (values : Row) (l' : Option (List ℕ)) (f : RowFault) → IfTold l l' (NextSays now new values (Err f)) → f ≢ fault.ReadFault → ◌≢◌ {A = Result Next RowFault} (Err f) (Err fault.OutOfMemory) →
       IfSome l0 (Is run (printed_by run turns) turns (record { bytes = last_written how (row_words row f); status = status.Trace }))
-  at_fault l' f n =
-      stops_at l' (Some f) (record { bytes = last_written how (row_words row f); status = status.Trace }) n
+  at_fault new values l' f says read memory =
+      stops_at l' (Some f) (record { bytes = last_written how (row_words row f); status = status.Trace }) (stops_there now new values l l' f says read memory)
       (report_fault how run.kernel run.budget s row (now.given + 1) f ∙ ap (λ m. record { bytes = last_written how (row_words m f); status = status.Trace }) r.stands.number)
 
-  -- the source failed while nothing waited for the sink
-  pub failed : (new : Reader) (l' : Option (List ℕ)) → LacksLine now.held new.held now.ended new.ended l l' → unsent ≡ [] →
+  -- the source failed: nothing waited for the sink, since no whole line was held
+  pub failed : (new : Reader) (l' : Option (List ℕ)) → LacksLine now.held new.held now.ended new.ended l l' → ((HasLine now.held → ⊥) → unsent ≡ []) →
       (bytes : List ℕ) × Appends h0 h bytes × IfTold l0 l' (Led run.format run.kernel run.budget run.first bytes)
-  failed new l' n z =
+  failed new l' n sent =
+      let z = sent (waited now.held new.held now.ended new.ended l l' n) in
       let all : printed_by run turns ≡ r.sent = r.split ∙ ap (λ x. r.sent ++ x) z ∙ append-nil r.sent in (
         printed_by run turns,
         subst (Appends h0 h) (sym all) r.appended,
@@ -330,9 +349,10 @@ module _ {run : Run} {F : List TickInput → Type 0} {turns : List TickInput} {s
       IfSome l0 (IsWholeReport run.format run.kernel run.budget run.first F h0 h unsent' status.Done)
   whole_end l' unsent' n g = whole_now F turns (record { bytes = last_written how (rows_words (row - 1)); status = status.Done }) unsent' (at_end l' n) g r.follows
 
-  pub whole_fault : (l' : Option (List ℕ)) (unsent' : List ℕ) (f : RowFault) → IfTold l l' (λ x y. trace_ahead now x ≡ stop (Some f) (now.given + 1)) → unsent' ≡ unsent ++ last_written how (row_words row f) →
-      IfSome l0 (IsWholeReport run.format run.kernel run.budget run.first F h0 h unsent' status.Trace)
-  whole_fault l' unsent' f n g = whole_now F turns (record { bytes = last_written how (row_words row f); status = status.Trace }) unsent' (at_fault l' f n) g r.follows
+  pub whole_fault : (new : Reader) (values : Row) (l' : Option (List ℕ)) (unsent' : List ℕ) (f : RowFault) → IfTold l l' (NextSays now new values (Err f)) → f ≢ fault.ReadFault → ◌≢◌ {A = Result Next RowFault} (Err f) (Err fault.OutOfMemory) →
+      unsent' ≡ unsent ++ last_written how (row_words row f) → IfSome l0 (IsWholeReport run.format run.kernel run.budget run.first F h0 h unsent' status.Trace)
+  whole_fault new values l' unsent' f says read memory g =
+      whole_now F turns (record { bytes = last_written how (row_words row f); status = status.Trace }) unsent' (at_fault new values l' f says read memory) g r.follows
 
   -- before the next line what was printed is a front
   pub front_now : IfSome l0 (IsReportFront run.format run.kernel run.budget run.first h0 h unsent)
@@ -435,15 +455,3 @@ module _ (how : Format) (k : PlainKernel) (budget : ℕ) (first : Reader) (F : L
 
 pub fell_since : (before mid now : ℕ) (d : Bool) → before ≤ mid → Fell mid now d → Fell before now d
 fell_since before mid now d le f = let r = f.rose in record { rose = omega arith; down = f.down }
-
--- no whole line was held before
-pub waited : (held_old held_new : List ℕ) (was is : Bool) (a b : Option (List ℕ)) → LacksLine held_old held_new was is a b → HasLine held_old → ⊥
-waited held_old held_new was is a b w has =
-    let at = position_or_len is_newline held_old in
-    let yes : is_newline (get_or held_old at 0) ≡ true = passes_at_first is_newline held_old 0 has in
-    let longer : length held_old ≤ length held_new = subst (λ l. length held_old ≤ length l) (sym w.came.held) (omega (arith, length-append held_old w.came.bytes)) in
-    let far : at < position_or_len is_newline held_new =
-    elim (cases_lt at (position_or_len is_newline held_new)) [ inl h ↦ h | inr h ↦ absurd (w.none (omega (arith, has, longer, h))) ] in
-    let no : is_newline (get_or held_new at 0) ≡ false = fails_before_first is_newline held_new at 0 far in
-    let same : get_or held_new at 0 ≡ get_or held_old at 0 = ap (λ l. get_or l at 0) w.came.held ∙ get_or_append_left held_old w.came.bytes 0 at has in
-    let both : true ≡ false = sym yes ∙ ap is_newline (sym same) ∙ no in cc

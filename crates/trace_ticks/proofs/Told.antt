@@ -18,6 +18,11 @@ told_map None b P Q h f = tt
 told_map (Some x) None P Q h f = h
 told_map (Some x) (Some y) P Q h f = f x y h
 
+pub told_and : (a b : Option (List ℕ)) (P Q : List ℕ → List ℕ → Type 0) → IfTold a b P → IfTold a b Q → IfTold a b (λ x y. P x y × Q x y)
+told_and None b P Q h k = tt
+told_and (Some x) None P Q h k = h
+told_and (Some x) (Some y) P Q h k = (h, k)
+
 pub told_refl : (a : Option (List ℕ)) (P : List ℕ → List ℕ → Type 0) → ((x : List ℕ) → P x x) → IfTold a a P
 told_refl None P f = tt
 told_refl (Some x) P f = f x
@@ -35,3 +40,7 @@ told_some_both (Some x) (Some y) P Q R h k f = f x y h k
 pub some_map : (a : Option (List ℕ)) (P Q : List ℕ → Type 0) → IfSome a P → ((x : List ℕ) → P x → Q x) → IfSome a Q
 some_map None P Q h f = tt
 some_map (Some x) P Q h f = f x h
+
+pub some_and : (a : Option (List ℕ)) (P Q : List ℕ → Type 0) → IfSome a P → IfSome a Q → IfSome a (λ x. P x × Q x)
+some_and None P Q h k = tt
+some_and (Some x) P Q h k = (h, k)

@@ -1,5 +1,4 @@
-use Rattle.std.proofs.Common.{◌≡◌, ◌+◌, List, [], ℕ, false, arith, length, sym, ap, refl, ◌∙◌}
-use Rattle.std.specs.Option.{IfSome}
+use Rattle.std.proofs.Common.{◌≡◌, List, [], ℕ, arith, ap, refl, ◌∙◌}
 use Rattle.forec_kernel.specs.Composed.{TickInput}
 use Rattle.forec_kernel.specs.Shapes.{PlainKernel}
 use Rattle.thread_code.specs.Plain.{plain_code}
@@ -7,8 +6,8 @@ use Rattle.exchange_meaning.specs.Logged.{ExchangeLog}
 use Rattle.exchange_replay.specs.Rooted.{HasReplayed}
 use Rattle.trace_rows.specs.SourceReads.{ReadsBytes}
 use Rattle.trace_ticks.specs.KernelNames.{input_names, inputs_of}
+use Rattle.trace_ticks.proofs.AtRow.{rows_behind}
 use Rattle.trace_ticks.proofs.Heading.{Started, started, no_header_there, head_fault, head_ran, head_failed, head_wanted}
-use Rattle.trace_ticks.proofs.TickLines.{inputs_each}
 use Rattle.log_runs.specs.RootWalks.{IsHeldTo, MayRead, RootRuns, WalkedTo}
 use Rattle.log_runs.proofs.HeadRuns.{head_both, head_unread, head_given, reads_none, reads_all}
 use Rattle.log_runs.proofs.RowWalks.{some_all}
@@ -19,14 +18,7 @@ use Rattle.log_runs.proofs.replaying.replay_root.Goals.{After-replay_rows, After
 use Rattle.log_runs.proofs.replaying.replay_root.Goals as goal
 
 pub replay_rows-requires-clause-rows : goal.replay_rows-requires-clause-rows
-replay_rows-requires-clause-rows g c =
-    let rows = c.in-Ok.ensures.rows in
-    record {
-      limit = rows.1;
-      number = rows.2;
-      each = rows.0 ∙ ap length c.requires.session.inputs ∙ inputs_each (plain_code c.args.code.now).shape ∙ sym c.requires.session.image;
-      live = rows.3;
-    }
+replay_rows-requires-clause-rows g c = rows_behind c.requires.session c.in-Ok.ensures.rows
 
 -- ---- the header was asked for
 

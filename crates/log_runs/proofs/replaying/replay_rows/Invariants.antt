@@ -1,14 +1,13 @@
-use Rattle.std.proofs.Common.{◌≡◌, ◌≤◌, ◌+◌, ◌-◌, true, length, List}
-use Rattle.std.specs.Io.KnownBytes.{IsAtEnd}
+use Rattle.std.proofs.Common.{◌≡◌, ◌+◌, ◌-◌, true, List}
 use Rattle.forec_kernel.specs.Composed.{TickInput}
 use Rattle.forec_kernel.specs.Shapes.{PlainKernel}
 use Rattle.thread_code.specs.Plain.{plain_code}
 use Rattle.exchange_meaning.specs.Logged.{ExchangeLog}
 use Rattle.exchange_replay.specs.Rooted.{HasReplayed}
 use Rattle.log_text.specs.ReadLogs.{HasPairs}
-use Rattle.trace_ticks.specs.Formats.{names_in}
 use Rattle.trace_ticks.proofs.Asking.{Going}
-use Rattle.trace_ticks.proofs.Running.{Stands_at}
+use Rattle.trace_ticks.proofs.AtRow.{AtRow}
+use Rattle.trace_ticks.proofs.Running.{run_of}
 use Rattle.log_runs.specs.RootWalks.{IsHeldTo, RootRuns}
 use Rattle.log_runs.proofs.replaying.replay_rows.Given as goal
 
@@ -19,20 +18,11 @@ invariant-ticks g l =
     let code = plain_code l.fn.code in
     record {
       going : (k : PlainKernel) (pairs : ExchangeLog) → IsHeldTo code l.fn.log k pairs →
-          Going left g.S.Source.faults g.S.Source.down (RootRuns code pairs) (record { format = l.fn.session.waiting.format; kernel = k; budget = l.budget; first = l.fn.rows })
-          (HasReplayed code l.fn.log pairs l.replayer) l.rows (held l.fn.out) (held l.out) l.session.waiting.bytes.items l.session.waiting.format l.row l.fn.trace l.trace;
+          Going left g.S.Source.faults g.S.Source.down (RootRuns code pairs) (run_of l.fn.session l.fn.rows k) (HasReplayed code l.fn.log pairs l.replayer) l.rows (held l.fn.out) (held l.out) l.session.waiting.bytes.items l.session.waiting.format l.row
+          l.fn.trace l.trace;
       some : (pairs : ExchangeLog) → HasPairs code.shape l.fn.log pairs → (turns : List TickInput) × HasReplayed code l.fn.log pairs l.replayer turns;
-      inputs : length l.session.image.inputs.items ≡ length l.fn.session.image.inputs.items;
-      outputs : length l.session.image.outputs.items ≡ length l.fn.session.image.outputs.items;
       live : l.replayer.live ≡ true;
-      reads : l.rows.live ≡ true;
-      stands : Stands_at l.fn.rows l.row l.rows;
-      low : 1 ≤ l.row;
-      high : l.row ≤ l.fn.rows.limit + 1;
-      names : names_in l.session.waiting.format ≡ names_in l.fn.session.waiting.format;
-      ended : l.rows.ended ≡ true → IsAtEnd (left l.trace);
-      read : g.S.Source.faults l.fn.trace ≤ g.S.Source.faults l.trace;
-      written : g.K.Sink.faults l.fn.out ≤ g.K.Sink.faults l.out;
+      kept : AtRow l.fn.session l.session l.fn.rows l.rows l.row (left l.trace) (g.S.Source.faults l.fn.trace) (g.S.Source.faults l.trace) (g.K.Sink.faults l.fn.out) (g.K.Sink.faults l.out);
     }
 
 abbrev pub decreases-ticks : goal.decreases-ticks

@@ -1,10 +1,10 @@
-use Rattle.std.proofs.Common.{◌≡◌, ◌+◌, ◌-◌, ◌++◌, [], ℕ, List, ap, subst, ◌∙◌, arith}
-use Rattle.exchange_meaning.specs.LogLines.{log_lines_from, thread_log_lines, log_text}
+use Rattle.std.proofs.Common.{◌-◌, subst, ◌∙◌, arith}
+use Rattle.exchange_meaning.specs.LogLines.{log_lines_from, thread_log_lines}
 use Rattle.exchange_log.specs.Posted.{log_in}
 use Rattle.whole_writes.specs.Calls.{AppendsFront}
 use Rattle.log_runs.specs.Sending.{SendsBehind}
-use Rattle.log_runs.proofs.PairLemmas.{thread_added, log_split, log_done}
-use Rattle.log_runs.proofs.SendingLemmas.{sends_both, sends_part, sends_front, err_map}
+use Rattle.log_runs.proofs.PairLemmas.{thread_added}
+use Rattle.log_runs.proofs.SendingLemmas.{sends_both, err_map, log_cut, log_held}
 use Rattle.log_runs.proofs.writing.write_log.Goals as goal
 
 pub loop-thread-preserved : goal.loop-thread-preserved
@@ -27,24 +27,14 @@ loop-thread-preserved g c =
 pub returns-in-Err-clause-err : goal.returns-in-Err-clause-err
 returns-in-Err-clause-err g c =
     let held = g.K.Sink.held in
-    let log = log_in c.args.port.now.mail in
-    let t = c.loop-thread.thread in
     let i = c.loop-thread.invariant in
-    let first = c.args.room.now.waiting.items in
-    let all = log_text c.args.threads log in
-    subst (AppendsFront (held c.args.out.now) (held c.write_thread.new.out)) (ap (λ (w : List ℕ). w ++ all) c.requires.empty)
-    (sends_part (held c.args.out.now) (held c.loop-thread.out) (held c.write_thread.new.out) first c.loop-thread.room.waiting.items (log_lines_from 1 (t - 1) log) (thread_log_lines t (log t)) all
-    (log_lines_from (1 + (t + 1 - 1)) (c.args.threads - 1 - t) log) i.sent (log_split log c.args.threads t i.some c.loop-thread-test.true) c.in-Err.ensures.err)
+    log_cut (log_in c.args.port.now.mail) c.args.threads c.loop-thread.thread (held c.args.out.now) (held c.loop-thread.out) (held c.write_thread.new.out) c.args.room.now.waiting.items c.loop-thread.room.waiting.items c.requires.empty i.sent
+    i.some c.loop-thread-test.true c.in-Err.ensures.err
 
 pub returns-clause-err : goal.returns-clause-err
 returns-clause-err g c =
     let held = g.K.Sink.held in
-    let log = log_in c.args.port.now.mail in
-    let t = c.loop-thread.thread in
     let i = c.loop-thread.invariant in
-    let first = c.args.room.now.waiting.items in
-    let all = log_text c.args.threads log in
     err_map c.write_all.result _ _ c.write_all.ensures.err (λ f.
-    subst (AppendsFront (held c.args.out.now) (held c.write_all.new.out)) (ap (λ (w : List ℕ). w ++ all) c.requires.empty)
-    (sends_front (held c.args.out.now) (held c.loop-thread.out) (held c.write_all.new.out) first c.loop-thread.room.waiting.items (log_lines_from 1 (t - 1) log) all [] i.sent
-    (log_done log c.args.threads t i.within c.loop-thread-test.false) (subst (AppendsFront (held c.loop-thread.out) (held c.write_all.new.out)) c.deref.ensures.value f)))
+    log_held (log_in c.args.port.now.mail) c.args.threads c.loop-thread.thread (held c.args.out.now) (held c.loop-thread.out) (held c.write_all.new.out) c.args.room.now.waiting.items c.loop-thread.room.waiting.items c.requires.empty i.sent
+    i.within c.loop-thread-test.false (subst (AppendsFront (held c.loop-thread.out) (held c.write_all.new.out)) c.deref.ensures.value f))
