@@ -1,20 +1,14 @@
-use Rattle.std.proofs.Common.{◌≡◌, ◌<◌, ◌++◌, ◌∷◌, [], ℕ, List, map, length, take, sym, ap, ◌∙◌, arith}
+use Rattle.std.proofs.Common.{◌++◌, ◌∷◌, [], ℕ, List, map, sym, ap, ◌∙◌, arith}
 use Rattle.trace_farm.specs.Farm.{NumberedReport, plain_report}
-use Rattle.std.proofs.lemmas.List.{take_all, length-map}
-use Rattle.std.proofs.lemmas.Simd.{length-zip2}
-use Rattle.forec_engine.specs.Farming.{plain_told, told_as, told_all}
-use Rattle.forec_engine.proofs.FarmPieces.{number_more, numbers_length, same_at_long}
+use Rattle.std.proofs.lemmas.List.{take_all}
+use Rattle.forec_engine.specs.Farming.{plain_told, told_all}
+use Rattle.forec_engine.proofs.FarmPieces.{number_more, numbers_length}
 use Rattle.forec_engine.proofs.farm_reports.numbers.Goals as goal
 
 pub loop-i-preserved : goal.loop-i-preserved
 loop-i-preserved c =
-    let reports = c.args.reports.now in
-    let long = c.args.long.now in
-    let i = c.loop-i.i in
-    let here : i < length reports = c.loop-i-test.true in
-    let long_is = same_at_long long i (omega (arith, here, c.requires)) in
     c.in_ok-push.ensures.items ∙ ap (λ (ns : List ℕ). ns ++ c.told.result.status ∷ []) c.loop-i.invariant
-    ∙ sym (number_more reports long c.requires i here _ _ (plain_told c.told.result) long_is c.index-reports-i.is c.told.ensures)
+    ∙ sym (number_more c.args.reports.now c.args.long.now c.requires c.loop-i.i c.loop-i-test.true _ (plain_told c.told.result) c.index-reports-i.is c.told.ensures)
 
 pub returns : goal.returns
 returns c =
