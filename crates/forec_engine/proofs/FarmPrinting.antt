@@ -26,7 +26,7 @@ use Rattle.trace_ticks.specs.Report.{Report, last_outcome, end_of_trace, ending,
 use Rattle.trace_ticks.specs.StatusNumbers.{status_number}
 use Rattle.trace_ticks.specs.declared.status.Status.{Status}
 use Rattle.trace_ticks.specs.declared.status.Status.TheVariants as status
-use Rattle.trace_ticks.proofs.Printing.{prints_all, prints_front, prints_nothing, prints_as}
+use Rattle.trace_ticks.proofs.Printing.{prints_all, prints_front, prints_nothing, prints_as, told_is}
 use Rattle.trace_ticks.proofs.Told.{some_map}
 use Rattle.forec_engine.specs.Budgets.{budget_for, boundless, with_budget, IsBoundless}
 use Rattle.forec_engine.specs.Commands.{Of_refusal, Of_accepted, TextReport, refused}
@@ -34,7 +34,7 @@ use Rattle.forec_engine.specs.Ends.{AcceptedSo}
 use Rattle.forec_engine.specs.Farms.{groups, worst, farm_report, TellsTexts, TellsFarm, FarmedReport}
 use Rattle.forec_engine.specs.Farming.{told_all, AreRead, IsRunStatus, AreRun, reports_of, whole_report, IsFarmReport, IsKernelFarm, IsNamedFarm}
 use Rattle.forec_engine.specs.declared.farm_traces.TheConstants.{FARM_ROWS}
-use Rattle.forec_engine.proofs.FarmReading.{texts_same, told_text, reports_are, told_are}
+use Rattle.forec_engine.proofs.FarmReading.{texts_same, reports_are, told_are}
 use Rattle.forec_engine.proofs.FarmStatuses.{worst_runs}
 
 -- ---- statuses
@@ -154,7 +154,7 @@ module _ {K : Type 0} (held : K → Option (List ℕ)) (lost : K → ℕ) (is_do
         Prints held lost is_down (TellsTexts other names) (TextReport bytes (FarmedReport other names b)) (AcceptedSo (λ k. IsBoundless k b) bytes) Less ⊥ out out' end → Named name b
     named_farmed other same name b bytes are Less more p =
         prints_as held lost is_down _ _ _ _ _ out out' _ _ _ _ _ end (λ t. (t.2.0, texts_same content other names same ∙ t.2.1))
-        (λ t r is. (t.0, t.1, told_as_before t.0 r (subst (λ (x : List ℕ). TextReport x (FarmedReport other names b) r) (told_text (content name) (λ x. bytes ≡ x) t.0 are t.1) is)))
+        (λ t r is. (t.0, t.1, told_as_before t.0 r (subst (λ (x : List ℕ). TextReport x (FarmedReport other names b) r) (told_is (content name) (λ x. bytes ≡ x) t.0 are t.1) is)))
         (λ m. some_map (content name) (λ x. bytes ≡ x) _ are (λ x e. subst (AcceptedSo (λ k. IsBoundless k b)) e m)) more (λ n. n) p
       where
         told_as_before : (text : List ℕ) (r : Report) → TextReport text (FarmedReport other names b) r → TextReport text (FarmedReport content names b) r
@@ -164,4 +164,4 @@ module _ {K : Type 0} (held : K → Option (List ℕ)) (lost : K → ℕ) (is_do
     pub named_too_long : (name : List ℕ) (b : Budget) (why : Refusal) → IfSome (content name) (λ x. Judged x (Refuses why)) → PrintsReport held lost is_down (refused why) ⊥ out out' end → Named name b
     named_too_long name b why judged p =
         prints_as held lost is_down _ _ _ _ _ out out' _ _ _ _ _ end (λ t. tt)
-        (λ t r is. (t.0, t.1, Of_refusal why (told_text (content name) (λ x. Judged x (Refuses why)) t.0 judged t.1) is)) (λ n. absurd n) (λ n. absurd n) (λ n. n) p
+        (λ t r is. (t.0, t.1, Of_refusal why (told_is (content name) (λ x. Judged x (Refuses why)) t.0 judged t.1) is)) (λ n. absurd n) (λ n. absurd n) (λ n. n) p

@@ -10,6 +10,7 @@ use Rattle.trace_farm.specs.Farm.{NumberedReport, with_number}
 use Rattle.trace_ticks.specs.KernelNames.{run_format}
 use Rattle.trace_ticks.specs.Report.{Report, trace_report}
 use Rattle.trace_ticks.specs.declared.format.Telling.TheVariants as telling
+use Rattle.trace_ticks.proofs.Printing.{told_is}
 use Rattle.forec_engine.specs.Farms.{too_long, farmed, AreTextsOf}
 use Rattle.forec_engine.specs.Farming.{IsReadOf, AreRead, told_as, picked, reports_of}
 use Rattle.forec_engine.specs.declared.farm_traces.TheConstants.{FARM_ROWS}
@@ -59,9 +60,6 @@ texts_same content other (n ∷ ns) same = ap₂ ◌∷◌ (same n) (texts_same 
 
 -- ---- reports
 
-pub told_text : (o : Option (List ℕ)) (Q : List ℕ → Type 0) (text : List ℕ) → IfSome o Q → o ≡ Some text → Q text
-told_text o Q text q e = subst (λ (x : Option (List ℕ)). IfSome x Q) e q
-
 module _ (k : PlainKernel) (units : ℕ) where
   abbrev run_of : List ℕ → Report
   run_of text = trace_report FARM_ROWS (run_format telling.Report k) k units text
@@ -84,7 +82,7 @@ module _ (k : PlainKernel) (units : ℕ) where
       let both : content n ∷ map content ns ≡ Some t ∷ map Some ts = e in
       let first : content n ≡ Some t = cc in
       let rest : map content ns ≡ map Some ts = cc in
-      ap₂ ◌∷◌ (picked_is t l b (told_text (content n) (λ text. IsReadOf text l b) t h.0 first)) (reports_are content ns ls bs ts h.1 rest)
+      ap₂ ◌∷◌ (picked_is t l b (told_is (content n) (λ text. IsReadOf text l b) t h.0 first)) (reports_are content ns ls bs ts h.1 rest)
 
   -- what is told of the reports of a farm
   pub told_are : (longs : List Bool) (bytes : List (List ℕ)) → zip2 told_as longs (map (λ text. with_number (run_of text)) bytes) ≡ map with_number (reports_of k units longs bytes)

@@ -1,5 +1,5 @@
 -- The status of a farm is the one with the greatest number.
-use Rattle.std.proofs.Common.{◌≡◌, ◌≢◌, ◌<◌, ◌≤◌, ℕ, zero, suc, nat_le, Bool, true, false, List, [], ◌∷◌, Option, Some, map, length, get_or, refl, sym, ap, subst, ◌∙◌, arith, if◌then◌else◌, All, le_antisymm, nat_cmp}
+use Rattle.std.proofs.Common.{◌≡◌, ◌≢◌, ◌<◌, ◌≤◌, ℕ, zero, suc, nat_le, Bool, true, false, List, [], ◌∷◌, Option, Some, map, length, get_or, refl, sym, ap, arith, if◌then◌else◌, All, le_antisymm, nat_cmp}
 use Rattle.std.proofs.lemmas.Bool.{leb-true, leb-false}
 use Rattle.std.proofs.lemmas.List.Elements.{All-contains}
 use Rattle.rayon.specs.Lists.{IsGreatest}
@@ -65,36 +65,7 @@ worst_runs (r ∷ rs) h = runs r.status (worst (map (λ r. r.status) rs)) (nat_l
 
 -- ---- numbers
 
--- the status with a number
-abbrev at : ℕ → Status
-at n =
-    if nat_le n 1 then status.Done
-    else (if nat_le n 2 then status.Usage
-    else (if nat_le n 3 then status.Refused
-    else (if nat_le n 4 then status.Trace
-    else (if nat_le n 5 then status.Trapped
-    else (if nat_le n 6 then status.Over
-    else (if nat_le n 7 then status.ReadFault
-    else (if nat_le n 8 then status.WriteFault
-    else (if nat_le n 9 then status.NoMemory else status.Full))))))))
-
-at_number : (s : Status) → at (status_number s) ≡ s
-at_number status.Done = refl
-at_number status.Usage = refl
-at_number status.Refused = refl
-at_number status.Trace = refl
-at_number status.Trapped = refl
-at_number status.Over = refl
-at_number status.ReadFault = refl
-at_number status.WriteFault = refl
-at_number status.NoMemory = refl
-at_number status.Full = refl
-
--- two statuses with one number are the same
-pub same_number : (s t : Status) → status_number s ≡ status_number t → s ≡ t
-same_number s t e = sym (at_number s) ∙ ap at e ∙ at_number t
-
--- and any other number is that of no memory, if it is one
+-- a number that no other status has is that of no memory, if it is one
 pub last_number : (n : ℕ) → n ≢ 0 → n ≢ 2 → n ≢ 3 → n ≢ 4 → n ≢ 5 → n ≢ 6 → n ≢ 7 → n ≢ 8 → n ≢ 10 → (s : Status) → status_number s ≡ n → status.NoMemory ≡ s
 last_number n a b c d e f g h i status.Done is = absurd (a (sym is))
 last_number n a b c d e f g h i status.Usage is = absurd (b (sym is))

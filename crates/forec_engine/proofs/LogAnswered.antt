@@ -17,7 +17,7 @@ use Rattle.trace_ticks.specs.declared.format.Telling.TheVariants as telling
 use Rattle.trace_ticks.specs.declared.status.Status.{Status}
 use Rattle.trace_ticks.specs.declared.status.Status.TheVariants as status
 use Rattle.trace_ticks.proofs.Told.{some_map}
-use Rattle.trace_ticks.proofs.Printing.{prints_as, prints_nothing, prints_unread}
+use Rattle.trace_ticks.proofs.Printing.{prints_as, prints_nothing, told_is}
 use Rattle.forec_engine.specs.Budgets.{budget_for, boundless, IsBoundless}
 use Rattle.forec_engine.specs.Commands.{Of_refusal, Of_accepted, TextReport, refused}
 use Rattle.forec_engine.specs.Ends.{WantedForLog, ReadForText, AcceptedSo}
@@ -25,7 +25,6 @@ use Rattle.forec_engine.specs.Logging.{LogsKernel, LogsText, LogsNamed}
 use Rattle.forec_engine.specs.Logs.{LogReport, Of_boundless, Of_misplaced_run, Of_logged, AcceptedLog}
 use Rattle.forec_engine.specs.Placing.{misplaced, misplacing, IsRefusedRun}
 use Rattle.forec_engine.proofs.Answered.{Misplaces, refused_by}
-use Rattle.forec_engine.proofs.Named.{told_same}
 
 module _ {S K : Type 0} (left : S → Option (List ℕ)) (faults : S → ℕ) (down : S → Bool) (held : K → Option (List ℕ)) (lost : K → ℕ) (is_down : K → Bool)
     (running : PlainRunning) (old new : S) (out out' : K) where
@@ -93,7 +92,7 @@ module _ {S K : Type 0} (left : S → Option (List ℕ)) (faults : S → ℕ) (d
     pub log_read : (bytes : List ℕ) (end : Status) → IfSome (content name) (λ x. bytes ≡ x) → LogsText left faults down held lost is_down running bytes old new out out' end → Did end
     log_read bytes end same p = record {
       prints = prints_as held lost is_down _ _ _ _ _ out out' _ _ _ _ _ end (λ t. t.2)
-          (λ t r is. (t.0, t.1, subst (λ (x : List ℕ). TextReport x (AcceptedLog running (left old)) r) (told_same (content name) (λ x. bytes ≡ x) t.0 same t.1) is))
+          (λ t r is. (t.0, t.1, subst (λ (x : List ℕ). TextReport x (AcceptedLog running (left old)) r) (told_is (content name) (λ x. bytes ≡ x) t.0 same t.1) is))
           (λ m. some_map (content name) (λ x. bytes ≡ x) _ same (λ x e. subst (AcceptedSo (λ k. IsRefusedRun k running)) e m))
           (λ u. inr (u.0, some_map (content name) (λ x. bytes ≡ x) _ same (λ x e. subst (λ (t : List ℕ). WantedForLog running t (left old) (left new) (held out) (held out')) e u.1))) (λ n. n) p.prints;
       trace = elim p.trace [
@@ -105,12 +104,6 @@ module _ {S K : Type 0} (left : S → Option (List ℕ)) (faults : S → ℕ) (d
     pub log_long : (end : Status) → IfSome (content name) (λ x. most_text_bytes < length x) → new ≡ old → PrintsReport held lost is_down (refused why.Long) ⊥ out out' end → Did end
     log_long end long same p = record {
       prints = prints_as held lost is_down _ _ _ _ _ out out' _ _ _ _ _ end (λ t. tt)
-          (λ t r is. (t.0, t.1, Of_refusal why.Long (too_long (told_same (content name) (λ x. most_text_bytes < length x) t.0 long t.1)) is)) (λ n. absurd n) (λ n. absurd n) (λ n. n) p;
+          (λ t r is. (t.0, t.1, Of_refusal why.Long (too_long (told_is (content name) (λ x. most_text_bytes < length x) t.0 long t.1)) is)) (λ n. absurd n) (λ n. absurd n) (λ n. n) p;
       trace = inl same;
     }
-
-    pub log_lost : Lost → new ≡ old → out' ≡ out → Did status.ReadFault
-    log_lost lost_it same kept = record { prints = prints_unread held lost is_down _ _ _ _ _ out out' (inl (lost_it, rw kept refl)); trace = inl same }
-
-    pub log_unread : new ≡ old → out' ≡ out → Did status.NoMemory
-    log_unread same kept = record { prints = prints_nothing held lost is_down _ _ _ _ _ out out' (rw kept refl); trace = inl same }

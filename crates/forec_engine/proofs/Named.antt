@@ -15,10 +15,7 @@ use Rattle.trace_ticks.specs.Prints.{PrintsReport}
 use Rattle.trace_ticks.specs.declared.status.Status.{Status}
 use Rattle.trace_ticks.specs.declared.status.Status.TheVariants as status
 use Rattle.trace_ticks.proofs.Told.{some_map}
-use Rattle.trace_ticks.proofs.Printing.{prints_as, prints_nothing, prints_unread}
-
-pub told_same : (o : Option (List ℕ)) (Q : List ℕ → Type 0) (text : List ℕ) → IfSome o Q → o ≡ Some text → Q text
-told_same o Q text q e = subst (λ (x : Option (List ℕ)). IfSome x Q) e q
+use Rattle.trace_ticks.proofs.Printing.{prints_as, prints_nothing, told_is}
 
 module _ {S K : Type 0} (left : S → Option (List ℕ)) (faults : S → ℕ) (down : S → Bool) (held : K → Option (List ℕ)) (lost : K → ℕ) (is_down : K → Bool) (command : PlainCommand) (fold : Bool) (old new : S) (out out' : K) where
   -- ---- of a text
@@ -53,7 +50,7 @@ module _ {S K : Type 0} (left : S → Option (List ℕ)) (faults : S → ℕ) (d
     pub named_read : (bytes : List ℕ) (end : Status) → IfSome (content name) (λ x. bytes ≡ x) → AnswersText left faults down held lost is_down command fold bytes old new out out' end → Did end
     named_read bytes end same p = record {
       prints = prints_as held lost is_down _ _ _ _ _ out out' _ _ _ _ _ end (λ t. t.2)
-          (λ t r is. (t.0, t.1, subst (λ (x : List ℕ). TextReport x (CommandReport command fold (left old)) r) (told_same (content name) (λ x. bytes ≡ x) t.0 same t.1) is))
+          (λ t r is. (t.0, t.1, subst (λ (x : List ℕ). TextReport x (CommandReport command fold (left old)) r) (told_is (content name) (λ x. bytes ≡ x) t.0 same t.1) is))
           (λ m. some_map (content name) (λ x. bytes ≡ x) _ same (λ x e. subst (AcceptedSo (FoldedIsMisused command fold)) e m)) (λ u. inr (u.0, u.1, (u.2.0, some_map (content name) (λ x. bytes ≡ x) _ same (λ x e. subst (λ (t : List ℕ). WantedByText (telling_in command) fold u.0 t (left old) (left new) (held out) (held out')) e u.2.1)))) (λ m. m) p.prints;
       trace = elim p.trace [
         | inl kept ↦ inl kept
@@ -64,12 +61,6 @@ module _ {S K : Type 0} (left : S → Option (List ℕ)) (faults : S → ℕ) (d
     pub named_long : (end : Status) → IfSome (content name) (λ x. most_text_bytes < length x) → new ≡ old → PrintsReport held lost is_down (refused why.Long) ⊥ out out' end → Did end
     named_long end long same p = record {
       prints = prints_as held lost is_down _ _ _ _ _ out out' _ _ _ _ _ end (λ t. tt)
-          (λ t r is. (t.0, t.1, Of_refusal why.Long (too_long (told_same (content name) (λ x. most_text_bytes < length x) t.0 long t.1)) is)) (λ n. absurd n) (λ n. absurd n) (λ n. absurd n) p;
+          (λ t r is. (t.0, t.1, Of_refusal why.Long (too_long (told_is (content name) (λ x. most_text_bytes < length x) t.0 long t.1)) is)) (λ n. absurd n) (λ n. absurd n) (λ n. absurd n) p;
       trace = inl same;
     }
-
-    pub named_lost : Lost → new ≡ old → out' ≡ out → Did status.ReadFault
-    named_lost lost_it same kept = record { prints = prints_unread held lost is_down _ _ _ _ _ out out' (inl (lost_it, rw kept refl)); trace = inl same }
-
-    pub named_nothing : new ≡ old → out' ≡ out → Did status.NoMemory
-    named_nothing same kept = record { prints = prints_nothing held lost is_down _ _ _ _ _ out out' (rw kept refl); trace = inl same }

@@ -16,13 +16,12 @@ use Rattle.trace_ticks.specs.Report.{Report}
 use Rattle.trace_ticks.specs.declared.status.Status.{Status}
 use Rattle.trace_ticks.specs.declared.status.Status.TheVariants as status
 use Rattle.trace_ticks.proofs.Told.{some_map}
-use Rattle.trace_ticks.proofs.Printing.{prints_as, prints_nothing, prints_unread}
+use Rattle.trace_ticks.proofs.Printing.{prints_as, prints_nothing, told_is}
 use Rattle.forec_engine.specs.Budgets.{budget_for, boundless, IsBoundless}
 use Rattle.forec_engine.specs.Commands.{Of_refusal, Of_accepted, TextReport, refused}
 use Rattle.forec_engine.specs.Ends.{ReplaysAs, WantedForReplay, ReadForReplayOf, AcceptedSo}
 use Rattle.forec_engine.specs.Replaying.{ReplaysKernel, ReplaysText, ReplaysNamed}
 use Rattle.forec_engine.specs.Replays.{AcceptedReplay, Of_no_bound, Of_long_log, Of_replayed}
-use Rattle.forec_engine.proofs.Named.{told_same}
 
 -- what holds of a text that is told
 some_told : (a : Option (List ℕ)) (P Q : List ℕ → Type 0) → IfSome a P → ((x : List ℕ) → a ≡ Some x → P x → Q x) → IfSome a Q
@@ -48,7 +47,7 @@ module _ {S K : Type 0} (left : S → Option (List ℕ)) (faults : S → ℕ) (d
           ReplaysRows left faults down held lost is_down MAX_ROWS k units lines old new out out' end → Kernel end
       replay_read lines end short same p = record {
         prints = prints_as held lost is_down _ _ _ _ _ out out' _ _ _ _ _ end (λ t. t.2)
-            (λ t r is. let e = told_same (content log) (λ x. lines ≡ x) t.0 same t.1 in
+            (λ t r is. let e = told_is (content log) (λ x. lines ≡ x) t.0 same t.1 in
             (t.0, is.0, t.1, is.1, Of_replayed units bounded (short_too t.0 e) (subst (λ (x : List ℕ). IsReplay MAX_ROWS k units x is.0 r) e is.2)))
             (λ n. absurd n)
             (λ u. inr (
@@ -77,12 +76,9 @@ module _ {S K : Type 0} (left : S → Option (List ℕ)) (faults : S → ℕ) (d
       pub replay_long : (end : Status) → IfSome (content log) (λ x. MAX_LOG_BYTES < length x) → new ≡ old → PrintsReport held lost is_down (refused why.Long) ⊥ out out' end → Kernel end
       replay_long end long same p = record {
         prints = prints_as held lost is_down _ _ _ _ _ out out' _ _ _ _ _ end (λ t. tt)
-            (λ t r is. (t.0, t.2.0, t.1, t.2.1, Of_long_log units bounded (told_same (content log) (λ x. MAX_LOG_BYTES < length x) t.0 long t.1) is)) (λ n. absurd n) (λ n. absurd n) (λ n. n) p;
+            (λ t r is. (t.0, t.2.0, t.1, t.2.1, Of_long_log units bounded (told_is (content log) (λ x. MAX_LOG_BYTES < length x) t.0 long t.1) is)) (λ n. absurd n) (λ n. absurd n) (λ n. n) p;
         trace = inl same;
       }
-
-    pub replay_lost : Lost → new ≡ old → out' ≡ out → Kernel status.ReadFault
-    replay_lost lost_it same kept = record { prints = prints_unread held lost is_down _ _ _ _ _ out out' (inl (lost_it, rw kept refl)); trace = inl same }
 
     pub replay_nothing : new ≡ old → out' ≡ out → Kernel status.NoMemory
     replay_nothing same kept = record { prints = prints_nothing held lost is_down _ _ _ _ _ out out' (rw kept refl); trace = inl same }
@@ -143,7 +139,7 @@ module _ {S K : Type 0} (left : S → Option (List ℕ)) (faults : S → ℕ) (d
           ReplaysText left faults down held lost is_down other log b Less bytes old new out out' end → Did end
       replay_named bytes end are p = record {
         prints = prints_as held lost is_down _ _ _ _ _ out out' _ _ _ _ _ end (λ t. (t.1, same ∙ t.3, t.4))
-            (λ t r is. (t.0, t.2, told_before t.0 r (subst (λ (x : List ℕ). TextReport x (AcceptedReplay other log b (left old)) r) (told_same (content name) (λ x. bytes ≡ x) t.0 are t.2) is)))
+            (λ t r is. (t.0, t.2, told_before t.0 r (subst (λ (x : List ℕ). TextReport x (AcceptedReplay other log b (left old)) r) (told_is (content name) (λ x. bytes ≡ x) t.0 are t.2) is)))
             (λ m. some_map (content name) (λ x. bytes ≡ x) _ are (λ x e. subst (AcceptedSo (λ k. IsBoundless k b)) e m))
             (λ u. elim u [
               | inl l ↦ inl (more l.0, l.1)
@@ -158,6 +154,6 @@ module _ {S K : Type 0} (left : S → Option (List ℕ)) (faults : S → ℕ) (d
     pub replay_too_long : (end : Status) → IfSome (content name) (λ x. most_text_bytes < length x) → new ≡ old → PrintsReport held lost is_down (refused why.Long) ⊥ out out' end → Did end
     replay_too_long end long same p = record {
       prints = prints_as held lost is_down _ _ _ _ _ out out' _ _ _ _ _ end (λ t. tt)
-          (λ t r is. (t.0, t.2, Of_refusal why.Long (too_long (told_same (content name) (λ x. most_text_bytes < length x) t.0 long t.2)) is)) (λ n. absurd n) (λ n. absurd n) (λ n. n) p;
+          (λ t r is. (t.0, t.2, Of_refusal why.Long (too_long (told_is (content name) (λ x. most_text_bytes < length x) t.0 long t.2)) is)) (λ n. absurd n) (λ n. absurd n) (λ n. n) p;
       trace = inl same;
     }
