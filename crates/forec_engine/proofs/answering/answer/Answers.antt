@@ -1,46 +1,30 @@
-use Rattle.std.proofs.Common.{sym, ap, subst, refl}
+use Rattle.std.proofs.Common.{refl}
 use Rattle.forec_kernel.specs.Shapes.{plain_kernel}
-use Rattle.command_words.specs.Requests.{plain_placing, plain_command}
-use Rattle.forec_engine.specs.Answers.{AnswersAccepted}
+use Rattle.command_words.specs.Requests.{plain_placing}
 use Rattle.forec_engine.proofs.Answered.{checked, threaded, coded}
 use Rattle.forec_engine.proofs.answering.answer.Goals as goal
 
 pub returns-in-Run : goal.returns-in-Run
-returns-in-Run g c =
-    let a = c.args.accepted.now in
-    subst (λ m. AnswersAccepted g.S.Source.left g.S.Source.faults g.S.Source.down g.K.Sink.held g.K.Sink.faults g.K.Sink.down m a.counts (plain_kernel a.kernel) c.args.trace.now c.start.new.trace c.args.out.now c.start.new.out c.start.result)
-    (sym (ap plain_command c.in-Run.is)) c.start.ensures
+returns-in-Run g c = rw c.in-Run.is c.start.ensures
 
 pub returns-in-Wave : goal.returns-in-Wave
-returns-in-Wave g c =
-    let a = c.args.accepted.now in
-    subst (λ m. AnswersAccepted g.S.Source.left g.S.Source.faults g.S.Source.down g.K.Sink.held g.K.Sink.faults g.K.Sink.down m a.counts (plain_kernel a.kernel) c.args.trace.now c.start-in-Wave.new.trace c.args.out.now c.start-in-Wave.new.out c.start-in-Wave.result)
-    (sym (ap plain_command c.in-Wave.is)) c.start-in-Wave.ensures
+returns-in-Wave g c = rw c.in-Wave.is c.start-in-Wave.ensures
 
 pub returns-in-Check : goal.returns-in-Check
 returns-in-Check g c =
     let a = c.args.accepted.now in
-    subst (λ m. AnswersAccepted g.S.Source.left g.S.Source.faults g.S.Source.down g.K.Sink.held g.K.Sink.faults g.K.Sink.down m a.counts (plain_kernel a.kernel) c.args.trace.now c.args.trace.now c.args.out.now c.tell.new.out c.tell.result)
-    (sym (ap plain_command c.in-Check.is))
-    (checked g.K.Sink.held g.K.Sink.faults g.K.Sink.down c.args.out.now c.tell.new.out c.tell.result g.S.Source.left g.S.Source.faults g.S.Source.down a.counts (plain_kernel a.kernel) c.args.trace.now c.args.trace.now refl c.tell.ensures)
+    rw c.in-Check.is (checked g.K.Sink.held g.K.Sink.faults g.K.Sink.down c.args.out.now c.tell.new.out c.tell.result g.S.Source.left g.S.Source.faults g.S.Source.down a.counts (plain_kernel a.kernel) c.args.trace.now c.args.trace.now refl c.tell.ensures)
 
 pub returns-in-Threads : goal.returns-in-Threads
 returns-in-Threads g c =
     let a = c.args.accepted.now in
-    subst (λ m. AnswersAccepted g.S.Source.left g.S.Source.faults g.S.Source.down g.K.Sink.held g.K.Sink.faults g.K.Sink.down m a.counts (plain_kernel a.kernel) c.args.trace.now c.args.trace.now c.args.out.now c.list_threads.new.out c.list_threads.result)
-    (sym (ap plain_command c.in-Threads.is))
-    (threaded g.K.Sink.held g.K.Sink.faults g.K.Sink.down c.args.out.now c.list_threads.new.out c.list_threads.result g.S.Source.left g.S.Source.faults g.S.Source.down a.counts (plain_kernel a.kernel) c.args.trace.now c.args.trace.now
+    rw c.in-Threads.is (threaded g.K.Sink.held g.K.Sink.faults g.K.Sink.down c.args.out.now c.list_threads.new.out c.list_threads.result g.S.Source.left g.S.Source.faults g.S.Source.down a.counts (plain_kernel a.kernel) c.args.trace.now c.args.trace.now
     (plain_placing c.in-Threads.placing) refl c.list_threads.ensures)
 
 pub returns-in-Code : goal.returns-in-Code
 returns-in-Code g c =
     let a = c.args.accepted.now in
-    subst (λ m. AnswersAccepted g.S.Source.left g.S.Source.faults g.S.Source.down g.K.Sink.held g.K.Sink.faults g.K.Sink.down m a.counts (plain_kernel a.kernel) c.args.trace.now c.args.trace.now c.args.out.now c.list.new.out c.list.result)
-    (sym (ap plain_command c.in-Code.is))
-    (coded g.K.Sink.held g.K.Sink.faults g.K.Sink.down c.args.out.now c.list.new.out c.list.result g.S.Source.left g.S.Source.faults g.S.Source.down a.counts (plain_kernel a.kernel) c.args.trace.now c.args.trace.now refl c.list.ensures)
+    rw c.in-Code.is (coded g.K.Sink.held g.K.Sink.faults g.K.Sink.down c.args.out.now c.list.new.out c.list.result g.S.Source.left g.S.Source.faults g.S.Source.down a.counts (plain_kernel a.kernel) c.args.trace.now c.args.trace.now refl c.list.ensures)
 
 pub returns-in-Explain : goal.returns-in-Explain
-returns-in-Explain g c =
-    let a = c.args.accepted.now in
-    subst (λ m. AnswersAccepted g.S.Source.left g.S.Source.faults g.S.Source.down g.K.Sink.held g.K.Sink.faults g.K.Sink.down m a.counts (plain_kernel a.kernel) c.args.trace.now c.explain.new.trace c.args.out.now c.explain.new.out c.explain.result)
-    (sym (ap plain_command c.in-Explain.is)) c.explain.ensures
+returns-in-Explain g c = rw c.in-Explain.is c.explain.ensures
