@@ -35,13 +35,14 @@ fn put_broken(waiting: &mut Waiting, place: Place, rule: u8)
     waiting.put(b"\n");
 }
 
-/// Adds the line of a program that passes this limit first.
-fn put_limit(waiting: &mut Waiting, what: Quantity, count: u64)
-    requires { HasRoomFor waiting.old 64 }
-    ensures { GainsBytes waiting.old waiting.new (refusal_line (Refusal.Limit what count)) }
+/// Adds a line of words and a number.
+fn put_numbered(waiting: &mut Waiting, words: &[u8], number: u64)
+    requires room { HasRoomFor waiting.old 64 }
+    requires short { length words.now ≤ 22 }
+    ensures { GainsBytes waiting.old waiting.new (words.now ++ decimal number ++ codes "\n") }
 {
-    waiting.put(limit_text(what));
-    waiting.put_number(count);
+    waiting.put(words);
+    waiting.put_number(number);
     waiting.put(b"\n");
 }
 
@@ -57,19 +58,8 @@ pub fn put_refusal(waiting: &mut Waiting, why: Refusal)
         Refusal::Syntax { place } => put_refused_at(waiting, place, b" syntax\n"),
         Refusal::Deep { place } => put_refused_at(waiting, place, b" deep\n"),
         Refusal::Rule { place, rule } => put_broken(waiting, place, rule),
-        Refusal::Limit { what, count } => put_limit(waiting, what, count),
+        Refusal::Limit { what, count } => put_numbered(waiting, limit_text(what), count),
     }
-}
-
-/// Adds a line of words and a number.
-fn put_numbered(waiting: &mut Waiting, words: &[u8], number: u64)
-    requires room { HasRoomFor waiting.old 64 }
-    requires short { length words.now ≤ 12 }
-    ensures { GainsBytes waiting.old waiting.new (words.now ++ decimal number ++ codes "\n") }
-{
-    waiting.put(words);
-    waiting.put_number(number);
-    waiting.put(b"\n");
 }
 
 /// Adds the line of a list of places that is refused.
