@@ -18,7 +18,7 @@ use Rattle.trace_ticks.specs.Report.{Report, trace_report}
 use Rattle.trace_ticks.specs.Workload.{ticked_report}
 use Rattle.trace_ticks.specs.declared.status.Status.{Status}
 use Rattle.trace_ticks.specs.declared.status.Status.TheVariants as status
-use Rattle.trace_ticks.proofs.Printing.{prints_as, prints_nothing}
+use Rattle.trace_ticks.proofs.Printing.{prints_as}
 use Rattle.forec_base.specs.Outside.{Fell}
 use Rattle.trace_ticks.specs.Ends.{Wanted, ReadFor}
 use Rattle.trace_ticks.specs.KernelNames.{run_format}
@@ -177,12 +177,6 @@ module _ {K : Type 0} (held : K → Option (List ℕ)) (lost : K → ℕ) (is_do
 
     pub coded : new ≡ old → Prints held lost is_down Unit (IsListing k) ⊥ ⊥ ⊥ out out' end → Did Code
     coded same p = record { prints = prints_as held lost is_down _ _ _ _ _ out out' _ _ _ _ _ end (λ t. tt) (λ t r is. is) (λ n. absurd n) (λ n. absurd n) (λ n. absurd n) p; trace = inl same }
-
--- memory ran out before anything was done
-pub nothing_done : {S K : Type 0} (left : S → Option (List ℕ)) (faults : S → ℕ) (down : S → Bool) (held : K → Option (List ℕ)) (lost : K → ℕ) (is_down : K → Bool) (command : PlainCommand) (counts : Counts) (k : PlainKernel) (old new : S)
-    (out out' : K) → new ≡ old → out' ≡ out → AnswersAccepted left faults down held lost is_down command counts k old new out out' status.NoMemory
-nothing_done left faults down held lost is_down command counts k old new out out' same kept =
-    record { prints = prints_nothing held lost is_down _ _ _ _ _ out out' (rw kept refl); trace = inl same }
 
 -- the bound as a budget
 small_bound : (n : ℕ) (over : Bool) → nat_lt MAX_BUDGET n ≡ over → IfSome (cond over None (Some n)) (λ most. most ≤ MAX_BUDGET)

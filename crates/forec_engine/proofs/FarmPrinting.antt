@@ -1,5 +1,6 @@
 -- What a farm prints.
-use Rattle.std.proofs.Common.{◌≡◌, ◌≢◌, ℕ, Bool, true, false, List, [], ◌∷◌, Option, Some, None, Vec, Global, map, refl, sym, ap, subst, ◌∙◌}
+use Rattle.std.proofs.Common.{◌≡◌, ℕ, Bool, true, false, List, [], ◌∷◌, Option, Some, None, Vec, Global, map, refl, sym, ap, subst, ◌∙◌}
+use Rattle.std.proofs.Math.Path.{fun_ext}
 use Rattle.std.specs.Option.{IfSome}
 use Rattle.std.specs.Io.KnownBytes.{Appends}
 use Rattle.std.proofs.lemmas.Simd.{map-map}
@@ -9,9 +10,7 @@ use Rattle.forec_kernel.specs.Ticks.{Fresh, run_from}
 use Rattle.forec_kernel.specs.declared.shape.Outcome.{Outcome}
 use Rattle.forec_kernel.specs.declared.shape.Outcome.TheVariants as outcome
 use Rattle.command_words.specs.declared.request.Budget.{Budget}
-use Rattle.text_verdict.specs.Judging.{Judged, Accepts, Refuses, too_long, most_text_bytes}
 use Rattle.text_verdict.specs.declared.counts.Counts.{Counts}
-use Rattle.text_verdict.specs.declared.refusal.Refusal.{Refusal}
 use Rattle.trace_farm.specs.Farm.{NumberedReport, with_number, plain_report, report_of}
 use Rattle.trace_farm.specs.declared.farm_report.FarmReport.{FarmReport}
 use Rattle.trace_rows.specs.Trace.{TraceEnd, trace_of}
@@ -26,16 +25,16 @@ use Rattle.trace_ticks.specs.Report.{Report, last_outcome, end_of_trace, ending,
 use Rattle.trace_ticks.specs.StatusNumbers.{status_number}
 use Rattle.trace_ticks.specs.declared.status.Status.{Status}
 use Rattle.trace_ticks.specs.declared.status.Status.TheVariants as status
-use Rattle.trace_ticks.proofs.Printing.{prints_all, prints_front, prints_nothing, prints_as, told_is}
-use Rattle.trace_ticks.proofs.Told.{some_map}
+use Rattle.trace_ticks.proofs.Printing.{prints_all, prints_front, prints_as}
 use Rattle.forec_engine.specs.Budgets.{budget_for, boundless, with_budget, IsBoundless}
-use Rattle.forec_engine.specs.Commands.{Of_refusal, Of_accepted, TextReport, refused}
+use Rattle.forec_engine.specs.Commands.{Of_accepted, IsProgram}
 use Rattle.forec_engine.specs.Ends.{AcceptedSo}
-use Rattle.forec_engine.specs.Farms.{groups, worst, farm_report, TellsTexts, TellsFarm, FarmedReport}
+use Rattle.forec_engine.specs.Farms.{groups, worst, farm_report, TellsTexts, TellsFarm}
 use Rattle.forec_engine.specs.Farming.{told_all, AreRead, IsRunStatus, AreRun, reports_of, whole_report, IsFarmReport, IsKernelFarm, IsNamedFarm}
 use Rattle.forec_engine.specs.declared.farm_traces.TheConstants.{FARM_ROWS}
-use Rattle.forec_engine.proofs.FarmReading.{texts_same, reports_are, told_are}
+use Rattle.forec_engine.proofs.FarmReading.{reports_are, told_are}
 use Rattle.forec_engine.proofs.FarmStatuses.{worst_runs}
+use Rattle.forec_engine.proofs.Named.{told_program, of_program}
 
 -- ---- statuses
 
@@ -106,9 +105,6 @@ module _ {K : Type 0} (held : K → Option (List ℕ)) (lost : K → ℕ) (is_do
         prints_front held lost is_down Unit (λ q. q ≡ whole_report names rs) ⊥ ⊥ ⊥ out out' fell
         (λ _. (whole_report names rs, refl, subst (λ (ts : List NumberedReport). AppendsFront (held out) (held out') (groups names ts)) are front))
 
-    pub farm_nothing : held out' ≡ held out → PrintsReport held lost is_down (whole_report names rs) ⊥ out out' status.NoMemory
-    farm_nothing same = prints_nothing held lost is_down Unit (λ q. q ≡ whole_report names rs) ⊥ ⊥ ⊥ out out' same
-
   -- ---- texts
 
   module _ (content : List ℕ → Option (List ℕ)) (names : List (List ℕ)) (Lost : Type 0) (end : Status) where
@@ -132,36 +128,11 @@ module _ {K : Type 0} (held : K → Option (List ℕ)) (lost : K → ℕ) (is_do
           prints_as held lost is_down _ _ _ _ _ out out' _ _ _ _ _ end (λ t. tt)
           (λ t r is. (t.0, t.1, is ∙ sym (ap (λ x. with_budget x (λ u. farm_report k u names t.0)) none))) (λ _. none) (λ n. absurd n) (λ n. n) p
 
-      pub text_farmed : (text : List ℕ) (counts : Counts) → Judged text (Accepts counts k) →
-          Prints held lost is_down (TellsTexts content names) (IsKernelFarm content names b k) (IsBoundless k b) Lost ⊥ out out' end →
-          Prints held lost is_down (TellsTexts content names) (TextReport text (FarmedReport content names b)) (AcceptedSo (λ k. IsBoundless k b) text) Lost ⊥ out out' end
-      text_farmed text counts judged p =
-          prints_as held lost is_down _ _ _ _ _ out out' _ _ _ _ _ end (λ t. t) (λ t r is. Of_accepted counts k judged is) (λ m. (counts, k, judged, m)) (λ u. u) (λ n. n) p
-
-    pub text_refused : (b : Budget) (text : List ℕ) (why : Refusal) → Judged text (Refuses why) → PrintsReport held lost is_down (refused why) ⊥ out out' end →
-        Prints held lost is_down (TellsTexts content names) (TextReport text (FarmedReport content names b)) (AcceptedSo (λ k. IsBoundless k b) text) Lost ⊥ out out' end
-    text_refused b text why judged p =
-        prints_as held lost is_down _ _ _ _ _ out out' _ _ _ _ _ end (λ t. tt) (λ t r is. Of_refusal why judged is) (λ n. absurd n) (λ n. absurd n) (λ n. n) p
-
-    -- ---- the text of a name
-
-    abbrev Named : List ℕ → Budget → Type 0
-    Named name b =
-        Prints held lost is_down (TellsFarm content name names) (IsNamedFarm content name names b) (IfSome (content name) (AcceptedSo (λ k. IsBoundless k b))) Lost ⊥ out out' end
-
-    pub named_farmed : (other : List ℕ → Option (List ℕ)) → ((n : List ℕ) → other n ≡ content n) → (name : List ℕ) (b : Budget) (bytes : List ℕ) → IfSome (content name) (λ x. bytes ≡ x) →
-        (Less : Type 0) → (Less → Lost) →
-        Prints held lost is_down (TellsTexts other names) (TextReport bytes (FarmedReport other names b)) (AcceptedSo (λ k. IsBoundless k b) bytes) Less ⊥ out out' end → Named name b
-    named_farmed other same name b bytes are Less more p =
-        prints_as held lost is_down _ _ _ _ _ out out' _ _ _ _ _ end (λ t. (t.2.0, texts_same content other names same ∙ t.2.1))
-        (λ t r is. (t.0, t.1, told_as_before t.0 r (subst (λ (x : List ℕ). TextReport x (FarmedReport other names b) r) (told_is (content name) (λ x. bytes ≡ x) t.0 are t.1) is)))
-        (λ m. some_map (content name) (λ x. bytes ≡ x) _ are (λ x e. subst (AcceptedSo (λ k. IsBoundless k b)) e m)) more (λ n. n) p
-      where
-        told_as_before : (text : List ℕ) (r : Report) → TextReport text (FarmedReport other names b) r → TextReport text (FarmedReport content names b) r
-        told_as_before text r (Of_refusal why j e) = Of_refusal why j e
-        told_as_before text r (Of_accepted counts k j x) = Of_accepted counts k j (x.0, sym (texts_same content other names same) ∙ x.1, x.2)
-
-    pub named_too_long : (name : List ℕ) (b : Budget) (why : Refusal) → IfSome (content name) (λ x. Judged x (Refuses why)) → PrintsReport held lost is_down (refused why) ⊥ out out' end → Named name b
-    named_too_long name b why judged p =
-        prints_as held lost is_down _ _ _ _ _ out out' _ _ _ _ _ end (λ t. tt)
-        (λ t r is. (t.0, t.1, Of_refusal why (told_is (content name) (λ x. Judged x (Refuses why)) t.0 judged t.1) is)) (λ n. absurd n) (λ n. absurd n) (λ n. n) p
+      -- the store's contents are the same once the program was read, and a fault of a later call is one of all calls
+      pub farm_accepted : (name : List ℕ) (counts : Counts) (other : List ℕ → Option (List ℕ)) → ((n : List ℕ) → other n ≡ content n) → (Less : Type 0) → (Less → Lost) → IsProgram (content name) counts k →
+          Prints held lost is_down (TellsTexts other names) (IsKernelFarm other names b k) (IsBoundless k b) Less ⊥ out out' end →
+          Prints held lost is_down (TellsFarm content name names) (IsNamedFarm content name names b) (IfSome (content name) (AcceptedSo (λ k. IsBoundless k b))) Lost ⊥ out out' end
+      farm_accepted name counts other same Less more program p =
+          prints_as held lost is_down _ _ _ _ _ out out' _ _ _ _ _ end (λ t. t.2) (λ t r is. (t.0, t.1, Of_accepted counts k (told_program (content name) counts k program t.0 t.1) is))
+          (λ m. of_program (content name) counts k program _ (λ x j. (counts, k, j, m))) more (λ n. n)
+          (subst (λ (c : List ℕ → Option (List ℕ)). Prints held lost is_down (TellsTexts c names) (IsKernelFarm c names b k) (IsBoundless k b) Less ⊥ out out' end) (fun_ext same) p)

@@ -53,11 +53,6 @@ pub read_long : (o : Option (List ℕ)) (kept : List ℕ) → kept ≡ [] → If
 read_long None kept none h = tt
 read_long (Some text) kept none h = record { long_is = sym (lt-ltb MAX_TEXT_BYTES (length text) h); bytes_are = none }
 
--- stores that tell the same have the same texts
-pub texts_same : (content other : List ℕ → Option (List ℕ)) (names : List (List ℕ)) → ((n : List ℕ) → other n ≡ content n) → map other names ≡ map content names
-texts_same content other [] same = refl
-texts_same content other (n ∷ ns) same = ap₂ ◌∷◌ (same n) (texts_same content other ns same)
-
 -- ---- reports
 
 module _ (k : PlainKernel) (units : ℕ) where

@@ -31,15 +31,7 @@ module _ {S K : Type 0} (left : S → Option (List ℕ)) (faults : S → ℕ) (d
     pub trace : (new ≡ old) ⊎ Running command (λ running. (misplacing k running.placing ≡ None)
         × (units : ℕ) × (budget_for k running.budget ≡ Some units) × ReadFor left faults down MAX_ROWS (run_format (telling_in command) k) k units old new)
 
-  -- it was done with a text, whose kernel was folded first, or not
-  pub record AnswersText (fold : Bool) (text : List ℕ) (old new : S) (out_old out_new : K) (end : Status) : Type 0 where
-    pub prints : Prints held lost is_down (TellsTrace command (left old)) (TextReport text (CommandReport command fold (left old)))
-        (AcceptedSo (FoldedIsMisused command fold) text)
-        (Running command (λ running. Fell (faults old) (faults new) (down new)
-        × WantedByText (telling_in command) fold running text (left old) (left new) (held out_old) (held out_new))) (Rewrites command) out_old out_new end
-    pub trace : (new ≡ old) ⊎ Running command (λ running. ReadForText left faults down (telling_in command) fold running text old new)
-
-  -- it was done with the text of a name. `Lost`: the store of the texts failed
+  -- it was done with the text of a name, whose kernel was folded first, or not. `Lost`: the store of the texts failed
   pub record AnswersNamed (fold : Bool) (content : List ℕ → Option (List ℕ)) (name : List ℕ) (Lost : Type 0) (old new : S) (out_old out_new : K) (end : Status) : Type 0 where
     pub prints : Prints held lost is_down (TellsNamed content name command (left old))
         (λ r. (text : List ℕ) × (content name ≡ Some text) × TextReport text (CommandReport command fold (left old)) r)

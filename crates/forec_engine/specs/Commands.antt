@@ -1,5 +1,5 @@
 -- The report that words give.
-use Rattle.std.specs.Prelude.{◌≡◌, ◌≤◌, ℕ, Bool, List, Option, Some, None, codes}
+use Rattle.std.specs.Prelude.{◌≡◌, ◌≤◌, ℕ, Bool, List, Option, Some, None, IfSome, codes}
 use Rattle.forec_base.specs.declared.limits.TheConstants.{MAX_CORES, MAX_ROWS}
 use Rattle.forec_kernel.specs.Shapes.{PlainKernel}
 use Rattle.thread_code.specs.Alone.{Stands}
@@ -89,6 +89,14 @@ AcceptedReport Code trace counts k r = IsListing k r
 -- the same of a command whose kernel has its constants folded first, or not
 abbrev pub CommandReport : PlainCommand → Bool → Option (List ℕ) → Counts → PlainKernel → Report → Type 0
 CommandReport command fold trace counts k r = AcceptedReport command trace counts (kernel_for fold k) r
+
+-- a text has this program, where it is told: it is accepted, with these counts and this kernel
+abbrev pub IsProgram : Option (List ℕ) → Counts → PlainKernel → Type 0
+IsProgram text counts k = IfSome text (λ x. Judged x (Accepts counts k))
+
+-- r says why a text is refused
+abbrev pub IsRefusal : List ℕ → Report → Type 0
+IsRefusal text r = (why : Refusal) × Judged text (Refuses why) × (r ≡ refused why)
 
 -- r is the report of a text, where this is said of the counts, the kernel and the report of one that is accepted
 pub data TextReport (text : List ℕ) (Says : Counts → PlainKernel → Report → Type 0) (r : Report) : Type 0 where

@@ -27,12 +27,6 @@ module _ {S K : Type 0} (left : S → Option (List ℕ)) (faults : S → ℕ) (d
     pub trace : (new ≡ old) ⊎ ((misplacing k running.placing ≡ None)
         × (units : ℕ) × (budget_for k running.budget ≡ Some units) × ReadFor left faults down MAX_ROWS (run_format telling.Report k) k units old new)
 
-  -- those of a text
-  pub record LogsText (text : List ℕ) (old new : S) (out_old out_new : K) (end : Status) : Type 0 where
-    pub prints : Prints held lost is_down (IsTold (left old)) (TextReport text (AcceptedLog running (left old))) (AcceptedSo (λ k. IsRefusedRun k running) text)
-        (Fell (faults old) (faults new) (down new) × WantedForLog running text (left old) (left new) (held out_old) (held out_new)) ⊥ out_old out_new end
-    pub trace : (new ≡ old) ⊎ ReadForText left faults down telling.Report false running text old new
-
   -- those of the text of a name. `Lost`: the store of the texts failed
   pub record LogsNamed (content : List ℕ → Option (List ℕ)) (name : List ℕ) (Lost : Type 0) (old new : S) (out_old out_new : K) (end : Status) : Type 0 where
     pub prints : Prints held lost is_down (TellsLog content name (left old)) (λ r. (text : List ℕ) × (content name ≡ Some text) × TextReport text (AcceptedLog running (left old)) r)

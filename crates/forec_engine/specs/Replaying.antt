@@ -32,14 +32,6 @@ module _ {S K : Type 0} (left : S → Option (List ℕ)) (faults : S → ℕ) (d
     pub trace : (new ≡ old) ⊎ IfSome (content log) (λ text. (length text ≤ MAX_LOG_BYTES) × (units : ℕ) × (budget_for k b ≡ Some units)
         × ReadForReplay left faults down MAX_ROWS k units text old new)
 
-  -- to a program's text
-  pub record ReplaysText (text : List ℕ) (old new : S) (out_old out_new : K) (end : Status) : Type 0 where
-    pub prints : Prints held lost is_down (TellsLogAndTrace content log (left old)) (TextReport text (AcceptedReplay content log b (left old)))
-        (AcceptedSo (λ k. IsBoundless k b) text)
-        ((Lost × (held out_new ≡ held out_old)) ⊎ (Fell (faults old) (faults new) (down new)
-        × WantedForReplay content log b text (left old) (left new) (held out_old) (held out_new))) ⊥ out_old out_new end
-    pub trace : (new ≡ old) ⊎ ReadForReplayOf left faults down content log b text old new
-
   -- to the text of a name
   pub record ReplaysNamed (name : List ℕ) (old new : S) (out_old out_new : K) (end : Status) : Type 0 where
     pub prints : Prints held lost is_down (TellsReplay content name log (left old))

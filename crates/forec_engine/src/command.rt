@@ -1,10 +1,10 @@
 //! The top call.
-ghost use Rattle.std.specs.Prelude.{◌≡◌, ◌≤◌, ◌≢◌, ◌⊎◌, ⊤, List, ℕ, Bool, map, length, string_bytes, Some};
+ghost use Rattle.std.specs.Prelude.{◌≡◌, ◌≤◌, ◌⊎◌, ⊤, List, ℕ, map, string_bytes};
 ghost use Rattle.forec_base.specs.Outside.{Fell, Rose};
 ghost use Rattle.command_words.specs.Requests.{plain_running, plain_command};
 ghost use Rattle.workload.specs.Text.{workload_text};
 ghost use Rattle.whole_writes.specs.Calls.{AppendsFront};
-ghost use Rattle.forec_engine.specs.Answers.{AnswersText, AnswersNamed, AnswersWords};
+ghost use Rattle.forec_engine.specs.Answers.{AnswersNamed, AnswersWords};
 ghost use Rattle.forec_engine.specs.Commands.{IsReport, WorkloadReport, IsKnown, IsInRange, IsRunnable};
 ghost use Rattle.trace_ticks.specs.Ends.{IsOwn, Given};
 ghost use Rattle.forec_engine.specs.Ends.{WantedByWords, ReadForWords, AcceptedSo, IsMisuse, NameThis, NameText, AskForRewriting};
@@ -17,13 +17,14 @@ use crate::dumps::tell_named;
 use crate::farming::{Farmed, farm_named};
 use crate::folding::answer_folded;
 use crate::logging::log_named;
+use crate::programs::{accepted_named, accepted_text};
 use crate::replaying::{Replayed, replay_named};
 use command_words::{Command, Request, Running, WordsFault, read_words};
-use forec_base::{Gate, MAX_DEPTH, MAX_TEXT_BYTES, Sink, Source, TextFault, Texts};
+use forec_base::{Gate, MAX_DEPTH, MAX_TEXT_BYTES, Sink, Source, Texts};
 use std::alloc::Global;
 use std::sync::Wait;
 use std::thread::Threads;
-use text_verdict::{JudgeFault, Refusal, judge};
+use text_verdict::Refusal;
 use trace_ticks::{Setting, Status, say};
 use workload::workload_text;
 
@@ -37,29 +38,7 @@ struct Task<'a> {
     fold: bool,
 }
 
-/// Does what is asked of a text.
-fn run_text<S: Source, K: Sink, G: Gate + Sync, R: Threads + Wait + Sync>(
-    setting: &Setting<'_, G, R>,
-    deepest: u64,
-    task: Task<'_>,
-    text: &[u8],
-    trace: &mut S,
-    out: &mut K,
-) -> Status
-    requires short { length text.now ≤ MAX_TEXT_BYTES }
-    requires ranges { IsInRange (plain_command task.command) }
-    ensures { AnswersText S.left S.faults S.down K.held K.faults K.down (plain_command task.entry.command)
-        task.entry.fold text.now trace.old trace.new out.old out.new result }
-{
-    let alloc = setting.alloc;
-    match judge(alloc, text, deepest) {
-        Ok(accepted) => answer_folded(setting, task.command, task.fold, accepted, trace, out),
-        Err(JudgeFault::Refused { why }) => refuse(alloc, why, out),
-        Err(JudgeFault::OutOfMemory) => Status::NoMemory,
-    }
-}
-
-/// Does what is asked of the text of a name.
+/// Does what is asked of the program of a name.
 fn run_named<T: Texts, S: Source, K: Sink, G: Gate + Sync, R: Threads + Wait + Sync>(
     setting: &Setting<'_, G, R>,
     deepest: u64,
@@ -75,12 +54,9 @@ fn run_named<T: Texts, S: Source, K: Sink, G: Gate + Sync, R: Threads + Wait + S
         task.entry.fold (T.content texts.old) name.now
         (Fell (T.faults texts.old) (T.faults texts.new) (T.down texts.new)) trace.old trace.new out.old out.new result }
 {
-    let alloc = setting.alloc;
-    match texts.read(alloc, name, MAX_TEXT_BYTES) {
-        Ok(text) => run_text(setting, deepest, task, &text, trace, out),
-        Err(TextFault::Failed) => Status::ReadFault,
-        Err(TextFault::OutOfMemory) => Status::NoMemory,
-        Err(TextFault::Long) => refuse(alloc, Refusal::Long, out),
+    match accepted_named(setting.alloc, deepest, name, texts, out) {
+        Ok(accepted) => answer_folded(setting, task.command, task.fold, accepted, trace, out),
+        Err(end) => end,
     }
 }
 
@@ -105,10 +81,9 @@ fn run_workload_text<K: Sink, G: Gate + Sync, R: Threads + Wait + Sync>(
     if text.len() > MAX_TEXT_BYTES {
         return refuse(alloc, Refusal::Long, out);
     }
-    match judge(alloc, &text, deepest) {
+    match accepted_text(alloc, deepest, &text, out) {
         Ok(accepted) => answer_workload(setting, threads, running, &accepted.kernel, out),
-        Err(JudgeFault::Refused { why }) => refuse(alloc, why, out),
-        Err(JudgeFault::OutOfMemory) => Status::NoMemory,
+        Err(end) => end,
     }
 }
 

@@ -7,22 +7,21 @@ ghost use Rattle.trace_farm.specs.Farm.{plain_report, with_number};
 ghost use Rattle.trace_ticks.specs.Prints.{Prints, PrintsReport};
 ghost use Rattle.trace_ticks.specs.Report.{Report};
 ghost use Rattle.forec_engine.specs.Budgets.{IsSmallBudget, IsBoundless};
-ghost use Rattle.forec_engine.specs.Commands.{TextReport};
 ghost use Rattle.forec_engine.specs.Ends.{AcceptedSo};
-ghost use Rattle.forec_engine.specs.Farms.{FarmedReport, TellsTexts, TellsFarm};
+ghost use Rattle.forec_engine.specs.Farms.{TellsTexts, TellsFarm};
 ghost use Rattle.forec_engine.specs.Farming.{told_all, AreRun, Unread, IsFarmReport, IsKernelFarm, IsNamedFarm, whole_report, reports_of};
 
-use crate::answering::{budget_units, refuse, say_boundless};
+use crate::answering::{budget_units, say_boundless};
 use crate::farm_reports::{whole_status, write_groups};
 use crate::farm_traces::{FARM_ROWS, Traces, TracesFault, read_traces};
+use crate::programs::accepted_named;
 use code_gen::generate;
 use command_words::Budget;
-use forec_base::{Gate, MAX_TEXT_BYTES, Sink, TextFault, Texts};
+use forec_base::{Gate, Sink, Texts};
 use forec_kernel::Kernel;
 use std::alloc::Global;
 use std::sync::Wait;
 use std::thread::Threads;
-use text_verdict::{JudgeFault, Refusal, judge};
 use trace_farm::{FarmReport, farm};
 use trace_ticks::{Setting, Status};
 
@@ -139,31 +138,6 @@ fn farm_kernel<T: Texts, K: Sink, G: Gate + Sync, R: Threads + Wait + Sync>(
     }
 }
 
-/// Runs the program of a text over the traces.
-fn farm_text<T: Texts, K: Sink, G: Gate + Sync, R: Threads + Wait + Sync>(
-    setting: &Setting<'_, G, R>,
-    deepest: u64,
-    text: &[u8],
-    farmed: Farmed<'_>,
-    texts: &mut T,
-    out: &mut K,
-) -> Status
-    requires short { length text.now ≤ MAX_TEXT_BYTES }
-    requires may { All (λ n. T.may texts.old n.now) farmed.traces.now }
-    requires small { IsSmallBudget farmed.budget }
-    ensures { Prints K.held K.faults K.down (TellsTexts (T.content texts.old) (map (λ n. n.now)
-        farmed.entry.traces.now))
-        (TextReport text.now (FarmedReport (T.content texts.old) (map (λ n. n.now) farmed.entry.traces.now)
-        farmed.entry.budget)) (AcceptedSo (λ k. IsBoundless k farmed.entry.budget) text.now)
-        (Unread T.faults T.down K.held texts.old texts.new out.old out.new) ⊥ out.old out.new result }
-{
-    match judge(setting.alloc, text, deepest) {
-        Ok(accepted) => farm_kernel(setting, &accepted.kernel, farmed, texts, out),
-        Err(JudgeFault::Refused { why }) => refuse(setting.alloc, why, out),
-        Err(JudgeFault::OutOfMemory) => Status::NoMemory,
-    }
-}
-
 /// Runs the program of a name over the traces. All texts are read, and all traces run, before anything is printed.
 pub fn farm_named<T: Texts, K: Sink, G: Gate + Sync, R: Threads + Wait + Sync>(
     setting: &Setting<'_, G, R>,
@@ -182,10 +156,8 @@ pub fn farm_named<T: Texts, K: Sink, G: Gate + Sync, R: Threads + Wait + Sync>(
         (IfSome (T.content texts.old name.now) (AcceptedSo (λ k. IsBoundless k farmed.entry.budget)))
         (Unread T.faults T.down K.held texts.old texts.new out.old out.new) ⊥ out.old out.new result }
 {
-    match texts.read(setting.alloc, name, MAX_TEXT_BYTES) {
-        Ok(text) => farm_text(setting, deepest, &text, farmed, texts, out),
-        Err(TextFault::Failed) => Status::ReadFault,
-        Err(TextFault::OutOfMemory) => Status::NoMemory,
-        Err(TextFault::Long) => refuse(setting.alloc, Refusal::Long, out),
+    match accepted_named(setting.alloc, deepest, name, texts, out) {
+        Ok(accepted) => farm_kernel(setting, &accepted.kernel, farmed, texts, out),
+        Err(end) => end,
     }
 }

@@ -12,6 +12,7 @@ mod folding;
 mod laws;
 mod lines;
 mod logging;
+mod programs;
 mod replaying;
 mod room;
 

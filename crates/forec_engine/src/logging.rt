@@ -1,21 +1,21 @@
 //! The log of what the threads of a program exchange in a run over the trace.
-ghost use Rattle.std.specs.Prelude.{◌≡◌, ◌≤◌, length, Some};
+ghost use Rattle.std.specs.Prelude.{◌≡◌, ◌≤◌, Some};
 ghost use Rattle.forec_base.specs.Outside.{Fell};
 ghost use Rattle.forec_base.specs.declared.limits.TheConstants.{MAX_BUDGET};
 ghost use Rattle.forec_kernel.specs.Shapes.{plain_kernel};
 ghost use Rattle.command_words.specs.Requests.{plain_running};
 ghost use Rattle.forec_engine.specs.Budgets.{budget_for};
 ghost use Rattle.forec_engine.specs.Commands.{IsRunnable};
-ghost use Rattle.forec_engine.specs.Logging.{LogsKernel, LogsText, LogsNamed};
+ghost use Rattle.forec_engine.specs.Logging.{LogsKernel, LogsNamed};
 
-use crate::answering::{budget_units, misplace, refuse, say_boundless};
+use crate::answering::{budget_units, misplace, say_boundless};
+use crate::programs::accepted_named;
 use command_words::Running;
-use forec_base::{Gate, MAX_TEXT_BYTES, Sink, Source, TextFault, Texts};
+use forec_base::{Gate, Sink, Source, Texts};
 use forec_kernel::Kernel;
 use log_runs::log_trace;
 use std::sync::Wait;
 use std::thread::Threads;
-use text_verdict::{JudgeFault, Refusal, judge};
 use thread_places::place;
 use trace_ticks::{Setting, Status};
 
@@ -60,27 +60,6 @@ fn log_kernel<S: Source, K: Sink, G: Gate + Sync, R: Threads + Wait + Sync>(
     }
 }
 
-/// Logs the program of a text.
-fn log_text<S: Source, K: Sink, G: Gate + Sync, R: Threads + Wait + Sync>(
-    setting: &Setting<'_, G, R>,
-    deepest: u64,
-    text: &[u8],
-    running: Running<'_>,
-    trace: &mut S,
-    out: &mut K,
-) -> Status
-    requires short { length text.now ≤ MAX_TEXT_BYTES }
-    requires ranges { IsRunnable (plain_running running) }
-    ensures { LogsText S.left S.faults S.down K.held K.faults K.down (plain_running running.entry) text.now trace.old
-        trace.new out.old out.new result }
-{
-    match judge(setting.alloc, text, deepest) {
-        Ok(accepted) => log_kernel(setting, &accepted.kernel, running, trace, out),
-        Err(JudgeFault::Refused { why }) => refuse(setting.alloc, why, out),
-        Err(JudgeFault::OutOfMemory) => Status::NoMemory,
-    }
-}
-
 /// Logs the program of a name. Nothing is printed while it runs.
 pub fn log_named<T: Texts, S: Source, K: Sink, G: Gate + Sync, R: Threads + Wait + Sync>(
     setting: &Setting<'_, G, R>,
@@ -97,10 +76,8 @@ pub fn log_named<T: Texts, S: Source, K: Sink, G: Gate + Sync, R: Threads + Wait
         texts.old) name.now (Fell (T.faults texts.old) (T.faults texts.new) (T.down texts.new)) trace.old trace.new
         out.old out.new result }
 {
-    match texts.read(setting.alloc, name, MAX_TEXT_BYTES) {
-        Ok(text) => log_text(setting, deepest, &text, running, trace, out),
-        Err(TextFault::Failed) => Status::ReadFault,
-        Err(TextFault::OutOfMemory) => Status::NoMemory,
-        Err(TextFault::Long) => refuse(setting.alloc, Refusal::Long, out),
+    match accepted_named(setting.alloc, deepest, name, texts, out) {
+        Ok(accepted) => log_kernel(setting, &accepted.kernel, running, trace, out),
+        Err(end) => end,
     }
 }

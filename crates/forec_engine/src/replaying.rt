@@ -1,18 +1,19 @@
 //! A log that is held to the run of a program over the trace.
-ghost use Rattle.std.specs.Prelude.{◌≡◌, ◌≤◌, length, Some};
+ghost use Rattle.std.specs.Prelude.{◌≡◌, ◌≤◌, Some};
 ghost use Rattle.forec_base.specs.Outside.{Fell};
 ghost use Rattle.forec_base.specs.declared.limits.TheConstants.{MAX_BUDGET};
 ghost use Rattle.forec_kernel.specs.Shapes.{plain_kernel};
 ghost use Rattle.forec_engine.specs.Budgets.{budget_for, IsSmallBudget};
-ghost use Rattle.forec_engine.specs.Replaying.{ReplaysKernel, ReplaysText, ReplaysNamed};
+ghost use Rattle.forec_engine.specs.Replaying.{ReplaysKernel, ReplaysNamed};
 
 use crate::answering::{budget_units, refuse, say_boundless};
+use crate::programs::accepted_named;
 use command_words::Budget;
-use forec_base::{MAX_TEXT_BYTES, Sink, Source, TextFault, Texts};
+use forec_base::{Sink, Source, TextFault, Texts};
 use forec_kernel::Kernel;
 use log_runs::{MAX_LOG_BYTES, replay_log};
 use std::alloc::Global;
-use text_verdict::{JudgeFault, Refusal, judge};
+use text_verdict::Refusal;
 use trace_ticks::Status;
 
 /// What is replayed: the name of the log, and how many units a tick may have.
@@ -69,30 +70,6 @@ fn replay_kernel<T: Texts, S: Source, K: Sink>(
     }
 }
 
-/// Holds the log to the program of a text.
-fn replay_text<T: Texts, S: Source, K: Sink>(
-    alloc: Global,
-    deepest: u64,
-    text: &[u8],
-    replayed: Replayed<'_>,
-    texts: &mut T,
-    trace: &mut S,
-    out: &mut K,
-) -> Status
-    requires short { length text.now ≤ MAX_TEXT_BYTES }
-    requires may { T.may texts.old replayed.log.now }
-    requires small { IsSmallBudget replayed.budget }
-    ensures { ReplaysText S.left S.faults S.down K.held K.faults K.down (T.content texts.old)
-        replayed.entry.log.now replayed.entry.budget (Fell (T.faults texts.old) (T.faults texts.new) (T.down
-        texts.new)) text.now trace.old trace.new out.old out.new result }
-{
-    match judge(alloc, text, deepest) {
-        Ok(accepted) => replay_kernel(alloc, &accepted.kernel, replayed, texts, trace, out),
-        Err(JudgeFault::Refused { why }) => refuse(alloc, why, out),
-        Err(JudgeFault::OutOfMemory) => Status::NoMemory,
-    }
-}
-
 /// Holds the log to the program of a name. The log is read once the program is accepted.
 pub fn replay_named<T: Texts, S: Source, K: Sink>(
     alloc: Global,
@@ -110,10 +87,8 @@ pub fn replay_named<T: Texts, S: Source, K: Sink>(
         replayed.entry.log.now replayed.entry.budget (Fell (T.faults texts.old) (T.faults texts.new) (T.down
         texts.new)) name.now trace.old trace.new out.old out.new result }
 {
-    match texts.read(alloc, name, MAX_TEXT_BYTES) {
-        Ok(text) => replay_text(alloc, deepest, &text, replayed, texts, trace, out),
-        Err(TextFault::Failed) => Status::ReadFault,
-        Err(TextFault::OutOfMemory) => Status::NoMemory,
-        Err(TextFault::Long) => refuse(alloc, Refusal::Long, out),
+    match accepted_named(alloc, deepest, name, texts, out) {
+        Ok(accepted) => replay_kernel(alloc, &accepted.kernel, replayed, texts, trace, out),
+        Err(end) => end,
     }
 }

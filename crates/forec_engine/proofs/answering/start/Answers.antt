@@ -1,8 +1,8 @@
-use Rattle.std.proofs.Common.{refl, sym}
+use Rattle.std.proofs.Common.{inl, refl, sym}
 use Rattle.forec_kernel.specs.Shapes.{plain_kernel}
 use Rattle.command_words.specs.Requests.{plain_running}
-use Rattle.forec_engine.specs.Ends.{run_with}
-use Rattle.forec_engine.proofs.Answered.{run_boundless, nothing_done}
+use Rattle.trace_ticks.proofs.Printing.{prints_nothing}
+use Rattle.forec_engine.proofs.Answered.{run_boundless}
 use Rattle.forec_engine.proofs.answering.start.Goals as goal
 
 pub returns-in-Ok-None : goal.returns-in-Ok-None
@@ -13,6 +13,4 @@ returns-in-Ok-None g c =
     c.args.telling (plain_running c.args.running) (sym none) refl c.say_boundless.ensures
 
 pub returns-in-Err : goal.returns-in-Err
-returns-in-Err g c =
-    let a = c.args.accepted.now in
-    nothing_done g.S.Source.left g.S.Source.faults g.S.Source.down g.K.Sink.held g.K.Sink.faults g.K.Sink.down (run_with c.args.telling (plain_running c.args.running)) a.counts (plain_kernel a.kernel) c.args.trace.now c.args.trace.now c.args.out.now c.args.out.now refl refl
+returns-in-Err g c = record { prints = prints_nothing g.K.Sink.held g.K.Sink.faults g.K.Sink.down _ _ _ _ _ c.args.out.now c.args.out.now refl; trace = inl refl }

@@ -1,7 +1,7 @@
-use Rattle.std.proofs.Common.{map, refl}
+use Rattle.std.proofs.Common.{map}
 use Rattle.trace_farm.specs.Farm.{plain_report}
 use Rattle.forec_engine.specs.Farming.{told_all}
-use Rattle.forec_engine.proofs.FarmPrinting.{farm_printed, farm_front, farm_nothing}
+use Rattle.forec_engine.proofs.FarmPrinting.{farm_printed, farm_front}
 use Rattle.forec_engine.proofs.farming.print_reports.Goals as goal
 
 pub returns-in-Ok-write_groups : goal.returns-in-Ok-write_groups

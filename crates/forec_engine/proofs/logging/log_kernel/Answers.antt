@@ -1,7 +1,8 @@
-use Rattle.std.proofs.Common.{refl, sym}
+use Rattle.std.proofs.Common.{inl, refl, sym}
 use Rattle.forec_kernel.specs.Shapes.{plain_kernel}
 use Rattle.command_words.specs.Requests.{plain_running}
-use Rattle.forec_engine.proofs.LogAnswered.{log_boundless, log_nothing}
+use Rattle.trace_ticks.proofs.Printing.{prints_nothing}
+use Rattle.forec_engine.proofs.LogAnswered.{log_boundless}
 use Rattle.forec_engine.proofs.logging.log_kernel.Goals as goal
 
 pub returns-in-Ok-None : goal.returns-in-Ok-None
@@ -11,6 +12,4 @@ returns-in-Ok-None g c =
     (plain_kernel c.args.kernel.now) c.say_boundless.result (sym none) refl c.say_boundless.ensures
 
 pub returns-in-Err : goal.returns-in-Err
-returns-in-Err g c =
-    log_nothing g.S.Source.left g.S.Source.faults g.S.Source.down g.K.Sink.held g.K.Sink.faults g.K.Sink.down (plain_running c.args.running) c.args.trace.now c.args.trace.now c.args.out.now c.args.out.now
-    (plain_kernel c.args.kernel.now) refl refl
+returns-in-Err g c = record { prints = prints_nothing g.K.Sink.held g.K.Sink.faults g.K.Sink.down _ _ _ _ _ c.args.out.now c.args.out.now refl; trace = inl refl }

@@ -1,6 +1,7 @@
-use Rattle.std.proofs.Common.{refl, sym}
+use Rattle.std.proofs.Common.{inl, refl, sym}
 use Rattle.forec_kernel.specs.Shapes.{plain_kernel}
-use Rattle.forec_engine.proofs.ReplayAnswered.{replay_boundless, replay_nothing}
+use Rattle.trace_ticks.proofs.Printing.{prints_nothing}
+use Rattle.forec_engine.proofs.ReplayAnswered.{replay_boundless}
 use Rattle.forec_engine.proofs.replaying.replay_kernel.Goals as goal
 
 pub returns-in-Ok-None : goal.returns-in-Ok-None
@@ -10,6 +11,4 @@ returns-in-Ok-None g c =
     c.args.trace.now c.args.trace.now c.args.out.now c.say_boundless.new.out (plain_kernel c.args.kernel.now) c.say_boundless.result (sym none) refl c.say_boundless.ensures
 
 pub returns-in-Err : goal.returns-in-Err
-returns-in-Err g c =
-    replay_nothing g.S.Source.left g.S.Source.faults g.S.Source.down g.K.Sink.held g.K.Sink.faults g.K.Sink.down (g.T.Texts.content c.args.texts.now) c.args.replayed.log.now c.args.replayed.budget _
-    c.args.trace.now c.args.trace.now c.args.out.now c.args.out.now (plain_kernel c.args.kernel.now) refl refl
+returns-in-Err g c = record { prints = prints_nothing g.K.Sink.held g.K.Sink.faults g.K.Sink.down _ _ _ _ _ c.args.out.now c.args.out.now refl; trace = inl refl }
