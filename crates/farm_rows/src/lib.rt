@@ -4,6 +4,4 @@
 #[cfg(test)]
 mod compiled;
 #[cfg(test)]
-mod meeting;
-#[cfg(test)]
 mod reports;
