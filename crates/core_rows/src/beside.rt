@@ -69,24 +69,21 @@ pub fn run_tick<'c, P: Port<ForecWork> + Drop, O: Serve, R: Wait>(
     Some((outcome, outputs[0]))
 }
 
-/// A host, if there is one, that is served one mailbox a call, and the first mailboxes that it served.
+/// A host that is served one mailbox a call, and the first mailboxes that it served.
 #[derive(Drop)]
-struct Counting<'c, P: Port<ForecWork> + Drop> {
-    host: Option<Host<'c, P>>,
+struct Counting<'h, 'c, P: Port<ForecWork> + Drop> {
+    host: &'h mut Host<'c, P>,
     served: [Option<u64>; 3],
     count: usize,
 }
 
-impl<'c, P: Port<ForecWork> + Drop> Serve for Counting<'c, P> {
+impl<'h, 'c, P: Port<ForecWork> + Drop> Serve for Counting<'h, 'c, P> {
     ghost use Rattle.std.specs.Prelude.{[]};
 
     ghost kept = { λ w. record { borrow = 0; hosts = [] } };
 
     fn serve<R: Wait>(&mut self, _rt: &R) -> bool {
-        let Some(host) = &mut self.host else {
-            return false;
-        };
-        let Served::Worked { k } = host.serve(&OpenGate) else {
+        let Served::Worked { k } = self.host.serve(&OpenGate) else {
             return false;
         };
         if self.count < 3 {
@@ -122,6 +119,27 @@ fn beside_workers<'c, P: Port<ForecWork> + Drop, R: Wait>(
 }
 
 /// Two ticks beside the host of a worker that was stopped before, one mailbox a call.
+fn beside_worker<'c, P: Port<ForecWork> + Drop, R: Wait>(
+    rt: &R,
+    root: &mut Host<'c, P>,
+    worker: Worker<'c, P>,
+    code: &'c Code,
+) -> Ran
+    requires here { is_here root.old 0 ≡ true }
+    requires code { root.old.code ≡ code.now }
+{
+    let mut host = worker.run(rt, &OpenGate);
+    let mut others = Counting {
+        host: &mut host,
+        served: [None, None, None],
+        count: 0,
+    };
+    let first = run_tick(rt, root, &mut others, code);
+    let second = run_tick(rt, root, &mut others, code);
+    (first, second, others.served)
+}
+
+/// The same, beside the last of these workers, if there is one.
 fn beside_host<'c, P: Port<ForecWork> + Drop, R: Wait>(
     rt: &R,
     mut root: Host<'c, P>,
@@ -132,18 +150,10 @@ fn beside_host<'c, P: Port<ForecWork> + Drop, R: Wait>(
     requires code { root.code ≡ code.now }
 {
     root.stop();
-    let host = match workers.pop() {
-        Some(worker) => Some(worker.run(rt, &OpenGate)),
-        None => None,
-    };
-    let mut others = Counting {
-        host,
-        served: [None, None, None],
-        count: 0,
-    };
-    let first = run_tick(rt, &mut root, &mut others, code);
-    let second = run_tick(rt, &mut root, &mut others, code);
-    (first, second, others.served)
+    match workers.pop() {
+        Some(worker) => beside_worker(rt, &mut root, worker, code),
+        None => (None, None, [None, None, None]),
+    }
 }
 
 /// Who serves the hosts beside the root.
