@@ -27,8 +27,8 @@ returns-then-len-gt-MAX_TEXT_BYTES g c =
     prints_as g.K.Sink.held g.K.Sink.faults g.K.Sink.down _ _ _ _ _ c.args.out.now c.refuse.new.out Unit (WorkloadReport c.args.threads running) (AcceptedSo (λ k. IsRefusedRun k running) (workload_text c.args.threads)) ⊥ ⊥
     c.refuse.result (λ t. t) (λ t r is. Of_refusal refusal.Long judged is) (λ n. absurd n) (λ n. n) (λ n. n) c.refuse.ensures
 
-pub returns-in-Err : goal.returns-in-Err
-returns-in-Err g c =
+pub returns : goal.returns
+returns g c =
     let running = plain_running c.args.running in
     prints_as g.K.Sink.held g.K.Sink.faults g.K.Sink.down _ _ _ _ _ c.args.out.now c.accepted_text.new.out Unit (WorkloadReport c.args.threads running) (AcceptedSo (λ k. IsRefusedRun k running) (workload_text c.args.threads)) ⊥ ⊥
     c.in-Err.end (λ t. t) (λ t r is. let why = subst (λ (t : List ℕ). IsRefusal t r) (c.deref.ensures.value ∙ c.in-Ok.ensures) is in Of_refusal why.0 why.1 why.2) (λ n. absurd n) (λ n. n) (λ n. n) c.in-Err.ensures.err
