@@ -13,7 +13,7 @@ PARTS = (
     ("functions that only decide", "thread_steps::decisions"),
     ("branches joined", "core_machine::thread::Thread::join", "core_machine::thread::Thread::start_joins", "core_machine::merging",
      "core_machine::thread::Thread::fold", "core_machine::thread::Thread::end_join", "combine_tree"),
-    ("threads entered and left", "one_core", "core_machine", "thread_state", "core_seats", "core_host", "trace_runs::hosted"),
+    ("threads entered and left", "one_core", "core_machine", "thread_state", "core_seats", "core_host", "trace_tickers::hosted"),
     ("the row", "trace_rows::form", "trace_rows::rows", "trace_rows::lines", "trace_rows::buffer", "trace_rows::steps", "trace_rows::values",
      "trace_rows::numbers", "trace_rows::changes", "trace_rows::names", "trace_rows::words", "memchr", "tick_jobs::job"),
     ("the line", "trace_rows::tick_line", "trace_rows::decimals", "itoa", "trace_ticks::waiting", "trace_ticks::format"),

@@ -14,8 +14,8 @@ use Rattle.command_words.specs.declared.request.Budget.{Budget}
 use Rattle.command_words.specs.declared.request.Budget.TheVariants as budget
 use Rattle.workload.specs.Text.{workload_text}
 use Rattle.text_verdict.specs.Judging.{Accepts, Judged}
-use Rattle.kernel_fold.specs.Laws.{FoldingKeepsForm, FoldingKeepsPaced}
-use Rattle.kernel_fold.specs.Folding.{folded_kernel}
+use Rattle.fold_laws.specs.Laws.{FoldingKeepsForm, FoldingKeepsPaced}
+use Rattle.fold_laws.specs.Folding.{folded_kernel}
 use Rattle.text_verdict.specs.Laws.{AcceptedTextsAreFormed, AcceptedTextsArePaced, AcceptedTextsAreNeverOver}
 use Rattle.text_verdict.specs.declared.counts.Counts.{Counts}
 use Rattle.trace_rows.specs.Trace.{TraceEnd, trace_of}

@@ -11,8 +11,8 @@ use Rattle.core_alloc.specs.declared.fault.PlaceFault.{PlaceFault}
 use Rattle.command_words.specs.Requests.{PlainPlacing, PlainRunning, PlainCommand, Run, Wave, Check, Threads, Code, Explain, OnText, OnWorkload, request_of, OnTraces}
 use Rattle.command_words.specs.declared.request.Budget.{Budget}
 use Rattle.command_words.specs.declared.request.Budget.TheVariants as budget
-use Rattle.kernel_fold.specs.Folding.{fold_stmt, folded_kernel}
-use Rattle.kernel_fold.specs.Laws.{UpToOver, FoldingKeepsRuns}
+use Rattle.fold_laws.specs.Folding.{fold_stmt, folded_kernel}
+use Rattle.fold_laws.specs.Laws.{UpToOver, FoldingKeepsRuns}
 use Rattle.text_verdict.specs.declared.counts.Counts.{Counts}
 use Rattle.thread_places.specs.Placed.{refusal_of}
 use Rattle.trace_rows.specs.Trace.{TraceEnd, trace_of}

@@ -16,7 +16,7 @@ use Rattle.forec_engine.specs.Folds.{kernel_for}
 use Rattle.command_words.specs.declared.request.Budget.{Budget}
 use Rattle.forec_engine.specs.Farms.{FarmedReport, farm_report, too_long}
 use Rattle.forec_engine.proofs.SomeReplay.{some_replay}
-use Rattle.kernel_fold.specs.Laws.{FoldingKeepsForm}
+use Rattle.fold_laws.specs.Laws.{FoldingKeepsForm}
 use Rattle.code_gen.specs.Blocks.{kernel_code}
 use Rattle.code_gen.proofs.Valid.{kernel_code_valid}
 use Rattle.code_gen.proofs.Stands.{kernel_code_stands}

@@ -2,7 +2,7 @@
 ghost use Rattle.forec_engine.specs.Laws.{OneReport, AlikeReports, SomeReport, CoveredNeverOver, BoundCovers, BoundNeverOver, FoldingPrintsTheSame, ReplayOkIsTheLog};
 
 use bound_laws::no_tick_passes_the_bound;
-use kernel_fold::{folding_keeps_form, folding_keeps_paced, folding_keeps_runs};
+use fold_laws::{folding_keeps_form, folding_keeps_paced, folding_keeps_runs};
 use log_laws::{each_accepted_text_has_fitting_logs, each_run_has_a_log};
 use log_runs::{a_run_has_one_log, a_run_has_one_replay};
 use text_verdict::{

@@ -8,7 +8,7 @@ use Rattle.forec_kernel.specs.declared.terms.Expression.{Expression}
 use Rattle.forec_kernel.specs.declared.terms.Statement.{Statement}
 use Rattle.forec_kernel.proofs.VecTerms.{joined_none, pushed}
 pub use Rattle.forec_kernel.proofs.VecTerms.{joined}
-use Rattle.kernel_fold.specs.Folding.{fold_expr, fold_exprs, is_nop, unless_nop, in_sequence, then_stmts, fold_stmt, fold_stmts}
+use Rattle.fold_laws.specs.Folding.{fold_expr, fold_exprs, is_nop, unless_nop, in_sequence, then_stmts, fold_stmt, fold_stmts}
 
 pub terms_step : (items : List Expression) (i : ℕ) (a : Expression) (xs ys : List Expression) (x : Expression) (whole : Exprs) →
     i < length items → get_or items i a ≡ a → expr x ≡ fold_expr (expr a) → ys ≡ xs ++ x ∷ [] →

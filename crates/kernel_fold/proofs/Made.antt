@@ -9,11 +9,11 @@ use Rattle.forec_kernel.specs.Terms.{Stmt}
 use Rattle.forec_kernel.specs.Ticks.{Fresh, run_of}
 use Rattle.forec_kernel.specs.WellFormed.{WellFormed}
 use Rattle.bound_laws.specs.Paced.{Paced}
-use Rattle.kernel_fold.specs.Folding.{fold_stmt, folded_kernel}
-use Rattle.kernel_fold.specs.Laws.{UpToOver, RunsAlike}
-use Rattle.kernel_fold.proofs.Formed.{folded_formed}
-use Rattle.kernel_fold.proofs.Ticks.{each_list, each_run}
-use Rattle.kernel_fold.proofs.Paces.{folded_paced}
+use Rattle.fold_laws.specs.Folding.{fold_stmt, folded_kernel}
+use Rattle.fold_laws.specs.Laws.{UpToOver, RunsAlike}
+use Rattle.fold_laws.proofs.Formed.{folded_formed}
+use Rattle.fold_laws.proofs.Ticks.{each_list, each_run}
+use Rattle.fold_laws.proofs.Paces.{folded_paced}
 
 pub made_folded : (k : KernelParts) (shape : Shape) (threads functions : Vec Statement Global) → plain_shape shape ≡ plain_shape k.shape →
     map stmt threads.items ≡ map fold_stmt (map stmt k.threads.items) → map stmt functions.items ≡ map fold_stmt (map stmt k.functions.items) →

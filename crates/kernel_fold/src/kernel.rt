@@ -4,8 +4,8 @@ ghost use Rattle.std.specs.Prelude.{◌≡◌, map, IfOk};
 ghost use Rattle.forec_kernel.specs.Plain.{stmt};
 ghost use Rattle.forec_kernel.specs.Shapes.{plain_kernel};
 ghost use Rattle.bound_laws.specs.Paced.{Paced};
-ghost use Rattle.kernel_fold.specs.Folding.{fold_stmt, IsFoldedKernel};
-ghost use Rattle.kernel_fold.specs.Laws.{RunsAsBefore, TakesNoMoreUnits};
+ghost use Rattle.fold_laws.specs.Folding.{fold_stmt, IsFoldedKernel};
+ghost use Rattle.fold_laws.specs.Laws.{RunsAsBefore, TakesNoMoreUnits};
 
 use crate::statements::fold_statement;
 use forec_base::OutOfMemory;

@@ -3,7 +3,7 @@
 ghost use Rattle.std.specs.Prelude.{◌≡◌, map, IfOk, OnOk};
 ghost use Rattle.forec_kernel.specs.Terms as plain;
 ghost use Rattle.forec_kernel.specs.Plain.{expr, stmt, stmts, branch};
-ghost use Rattle.kernel_fold.specs.Folding.{is_nop, unless_nop, in_sequence, then_stmts, if_term, while_term, fold_expr, fold_branches, fold_stmt, fold_stmts};
+ghost use Rattle.fold_laws.specs.Folding.{is_nop, unless_nop, in_sequence, then_stmts, if_term, while_term, fold_expr, fold_branches, fold_stmt, fold_stmts};
 
 use crate::terms::{fold_expression, fold_expressions, number};
 use forec_base::{OutOfMemory, Place};

@@ -4,7 +4,7 @@ ghost use Rattle.std.specs.Prelude.{◌≡◌, not, IfOk};
 ghost use Rattle.forec_kernel.specs.Terms as plain;
 ghost use Rattle.forec_kernel.specs.Plain.{expr, exprs};
 ghost use Rattle.forec_base.specs.Numbers.{truth, is_zero, binary_of};
-ghost use Rattle.kernel_fold.specs.Folding.{constant_of, binary_number, and_number, or_number, unary_term, binary_term, and_term, or_term, choice_term, fold_expr, fold_exprs};
+ghost use Rattle.fold_laws.specs.Folding.{constant_of, binary_number, and_number, or_number, unary_term, binary_term, and_term, or_term, choice_term, fold_expr, fold_exprs};
 
 use forec_base::{Binary, OutOfMemory, Place, Unary, binary, unary};
 use forec_kernel::Expression;

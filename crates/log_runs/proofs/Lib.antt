@@ -1,12 +1,10 @@
 -- Lemmas.
-pub mod AllCores
 pub mod HeadRuns
 pub mod KernelLogs
 pub mod LinesOver
 pub mod NextTick
 pub mod NextTicks
 pub mod OneReplay
-pub mod PairLemmas
 pub mod Pausing
 pub mod ReplayLemmas
 pub mod RootSaid
@@ -14,9 +12,7 @@ pub mod RootTicks
 pub mod RowWalks
 pub mod RunLemmas
 pub mod SayingLemmas
-pub mod SendingLemmas
 pub mod SomeReplay
 pub mod TellingLemmas
 pub mod TraceSaid
 pub mod TraceWalks
-pub mod Unused

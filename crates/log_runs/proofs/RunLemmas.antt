@@ -13,7 +13,7 @@ use Rattle.core_host.specs.Hosted.{Hosted, code_of, IsWhole}
 use Rattle.core_host.specs.Owned.{HasOwnPort}
 use Rattle.core_host.specs.Runs.{HasJobs, HostHasRun}
 use Rattle.exchange_log.specs.Posted.{log_in, TicksAreLogged}
-use Rattle.log_runs.specs.Logging.{LogsItsTicks}
+use Rattle.log_writing.specs.Logging.{LogsItsTicks}
 use Rattle.log_runs.specs.RunLogs.{IsLogReport, IsTraceLog, LogsRows, run_status}
 use Rattle.log_runs.proofs.Pausing.{trace_pauses}
 use Rattle.trace_ticks.specs.Ends.{IsOwn, ReadFor}

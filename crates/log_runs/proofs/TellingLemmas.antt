@@ -13,7 +13,7 @@ use Rattle.exchange_meaning.specs.LogLines.{log_text}
 use Rattle.exchange_log.specs.Kept.{Logging, code_in_mail, mail_words}
 use Rattle.exchange_log.specs.Lines.{lines_room}
 use Rattle.exchange_log.specs.Posted.{IsAnswered, log_in, log_words}
-use Rattle.log_runs.specs.Logging.{CanTellLog}
+use Rattle.log_writing.specs.Logging.{CanTellLog}
 use Rattle.log_runs.specs.RunLogs.{IsLogReport, Of_kept, Of_full, log_full, logged_report}
 use Rattle.log_runs.specs.declared.logging.TheConstants.{LOG_WORDS}
 use Rattle.whole_writes.specs.Calls.{AppendsFront}

@@ -3,11 +3,8 @@
 
 mod laws;
 mod logging;
-mod pieces;
 mod quiet;
 mod replaying;
-mod ticker;
-mod writing;
 
 pub use laws::{a_run_has_one_log, a_run_has_one_replay};
 pub use logging::log_trace;

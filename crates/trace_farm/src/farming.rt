@@ -19,7 +19,7 @@ use forec_base::{Gate, OutOfMemory};
 use std::alloc::Global;
 use std::sync::Wait;
 use thread_code::Code;
-use trace_runs::Alone;
+use trace_tickers::Alone;
 use trace_ticks::{Company, Nobody, Session, Telling, run};
 
 /// The lines after those of the ticks take so many bytes at most.

@@ -13,8 +13,6 @@ ghost use Rattle.trace_ticks.specs.Led.{RunsRows};
 ghost use Rattle.trace_ticks.specs.Prints.{PrintsReport};
 ghost use Rattle.trace_ticks.specs.Workload.{ticked_report};
 
-use crate::beside::lead_hosts;
-use crate::hosted::OnOneCore;
 use board_hosts::{Hosts, board_of, hosts_of};
 use code_gen::generate;
 use core_alloc::Placement;
@@ -27,6 +25,7 @@ use slot_board::{GivesPorts, SlotBoard};
 use std::sync::Wait;
 use std::thread::Threads;
 use thread_code::Code;
+use trace_tickers::{OnOneCore, lead_hosts};
 use trace_ticks::{
     Company, Lead, Nobody, Session, Setting, Status, Telling, TraceRun, WorkloadRun,
 };

@@ -2,13 +2,8 @@
 //! workload.
 #![tactic(auto)]
 
-mod beside;
-mod hosted;
 mod hosting;
-mod orders;
-mod rewriter;
 mod rewriting;
 
-pub use hosted::Alone;
 pub use hosting::{host_trace, host_workload};
 pub use rewriting::rewrite_trace;

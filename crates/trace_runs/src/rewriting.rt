@@ -6,10 +6,10 @@ ghost use Rattle.forec_kernel.specs.Shapes.{plain_kernel};
 ghost use Rattle.trace_ticks.specs.KernelNames.{run_format};
 ghost use Rattle.trace_ticks.specs.Led.{RunsRows};
 
-use crate::rewriter::Rewriter;
 use forec_base::{Gate, MAX_ROWS, Sink, Source};
 use forec_kernel::Kernel;
 use std::sync::Wait;
+use trace_tickers::Rewriter;
 use trace_ticks::{Company, Nobody, Session, Setting, Status, Telling, run};
 
 /// Runs a kernel over a trace by rewriting its texts, each tick in the order of steps with this number, and writes what

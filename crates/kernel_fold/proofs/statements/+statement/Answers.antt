@@ -1,7 +1,7 @@
 use Rattle.std.proofs.Common.{◌∙◌, sym, ap}
 use Rattle.forec_kernel.specs.Plain.{stmt, stmts}
 use Rattle.forec_kernel.proofs.VecTerms.{stmt-sequence}
-use Rattle.kernel_fold.specs.Folding.{in_sequence, fold_stmt, fold_stmts}
+use Rattle.fold_laws.specs.Folding.{in_sequence, fold_stmt, fold_stmts}
 use Rattle.kernel_fold.proofs.Lists.{stmts_step, stmts_end}
 use Rattle.kernel_fold.proofs.statements.+statement.Goals as goal
 

@@ -1,5 +1,5 @@
 use Rattle.std.proofs.Common.{subst}
-use Rattle.log_runs.specs.Logging.{LogsItsTicks}
+use Rattle.log_writing.specs.Logging.{LogsItsTicks}
 use Rattle.log_runs.proofs.RunLemmas.{its_ticks}
 use Rattle.log_runs.proofs.logging.logs_its_ticks.Goals as goal
 

@@ -1,7 +1,7 @@
 use Rattle.std.proofs.Common.{ap, sym, subst, refl}
 use Rattle.thread_code.specs.Alone.{Stands}
 use Rattle.thread_code.specs.Plain.{PlainCode, plain_code}
-use Rattle.trace_runs.proofs.Fine.{ok_map}
+use Rattle.trace_tickers.proofs.Fine.{ok_map}
 use Rattle.trace_runs.proofs.hosting.lead_over.Goals as goal
 
 pub lead_hosts-requires-clause-can : goal.lead_hosts-requires-clause-can

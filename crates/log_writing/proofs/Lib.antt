@@ -1,0 +1,4 @@
+pub mod AllCores
+pub mod PairLemmas
+pub mod SendingLemmas
+pub mod Unused

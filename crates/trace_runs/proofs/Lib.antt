@@ -1,2 +1,0 @@
-mod Fine
-mod Numbered

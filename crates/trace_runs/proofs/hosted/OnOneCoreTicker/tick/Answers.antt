@@ -1,6 +1,0 @@
-use Rattle.one_core.specs.Single.{single_ticking}
-use Rattle.trace_ticks.proofs.Following.{code_ticks}
-use Rattle.trace_runs.proofs.hosted.OnOneCoreTicker.tick.Goals as goal
-
-pub returns-clause-tick : goal.returns-clause-tick
-returns-clause-tick g c = code_ticks _ _ c.args.row.now c.args.budget _ c.args.outputs.now _ c.tick.ensures.runs
