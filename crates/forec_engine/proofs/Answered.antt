@@ -7,7 +7,7 @@ use Rattle.forec_base.specs.declared.limits.TheConstants.{MAX_BUDGET, MAX_ROWS}
 use Rattle.forec_kernel.specs.Shapes.{PlainKernel}
 use Rattle.core_alloc.specs.declared.fault.PlaceFault.{PlaceFault}
 use Rattle.core_alloc.specs.declared.fault.PlaceFault.TheVariants as fault
-use Rattle.command_words.specs.Requests.{PlainPlacing, PlainRunning, PlainCommand, Run, Check, Threads, Code, Explain}
+use Rattle.command_words.specs.Requests.{PlainPlacing, PlainRunning, PlainCommand, Check, Threads, Code, Explain}
 use Rattle.command_words.specs.declared.request.Budget.TheVariants as budget
 use Rattle.tick_bounds.specs.Bound.{worst_case}
 use Rattle.tick_bounds.specs.Capped.{as_budget}
@@ -17,7 +17,6 @@ use Rattle.trace_ticks.specs.Prints.{Prints, PrintsReport}
 use Rattle.trace_ticks.specs.Report.{Report, trace_report}
 use Rattle.trace_ticks.specs.Workload.{ticked_report}
 use Rattle.trace_ticks.specs.declared.status.Status.{Status}
-use Rattle.trace_ticks.specs.declared.status.Status.TheVariants as status
 use Rattle.trace_ticks.proofs.Printing.{prints_as}
 use Rattle.forec_base.specs.Outside.{Fell}
 use Rattle.trace_ticks.specs.Ends.{Wanted, ReadFor}

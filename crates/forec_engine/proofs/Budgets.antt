@@ -34,16 +34,16 @@ use Rattle.forec_engine.specs.Logs.{LogReport, Of_boundless, Of_misplaced_run, O
 use Rattle.forec_engine.specs.Replays.{ReplayReport, Of_no_bound, Of_long_log, Of_replayed, AcceptedReplay}
 use Rattle.log_runs.specs.ReplayRuns.{IsReplay, Of_no_log, Of_thread, Of_tick, Of_left, Of_same}
 use Rattle.log_runs.specs.RunLogs.{IsLogReport, Of_kept, Of_full, run_status}
-use Rattle.forec_engine.specs.Commands.{ThreadsReport, Of_misplaced, Of_placed, AcceptedReport, CommandReport, IsReport, Of_usage, Of_text, Of_workload, Of_dump, TextReport, Of_refusal, Of_accepted, run_report, Of_farm, Of_log, Of_replay}
+use Rattle.forec_engine.specs.Commands.{ThreadsReport, Of_misplaced, Of_placed, AcceptedReport, CommandReport, Of_usage, Of_text, Of_workload, Of_dump, TextReport, Of_refusal, Of_accepted, run_report, Of_farm, Of_log, Of_replay}
 use Rattle.forec_engine.specs.Ends.{running_in}
-use Rattle.forec_engine.specs.Laws.{CoverTheirKernel, CoveredNeverOver, BoundCovers, AskForBound, Of_run, Of_gen, Of_traces, Of_log_run, Of_replay_run, BoundNeverOver}
-use Rattle.forec_engine.specs.Farms.{too_long, farmed, worse, worst, farm_report, FarmedReport}
+use Rattle.forec_engine.specs.Laws.{CoveredNeverOver, BoundCovers, AskForBound, Of_run, Of_gen, Of_traces, Of_log_run, Of_replay_run, BoundNeverOver}
+use Rattle.forec_engine.specs.Farms.{too_long, farmed, worst, farm_report, FarmedReport}
 use Rattle.forec_engine.specs.declared.farm_traces.TheConstants.{FARM_ROWS}
 use Rattle.forec_base.specs.declared.limits.TheConstants.{MAX_TEXT_BYTES}
 use Rattle.trace_ticks.specs.StatusNumbers.{status_number}
 use Rattle.forec_engine.specs.Placing.{misplacing, unless_misplaced, workload_report}
 use Rattle.forec_engine.proofs.DumpLemmas.{dump_never}
-use Rattle.forec_engine.proofs.Reports.{some_same, name_same, command_same, threads_same, running_same, never_text, farm_budget_same, never_farm, never_workload, text_no_log, workload_no_log, farm_no_log, log_running_same, text_no_replay, workload_no_replay, farm_no_replay, log_no_replay, replay_budget_same}
+use Rattle.forec_engine.proofs.Reports.{some_same, command_same, running_same, never_text, farm_budget_same, never_farm, never_workload, text_no_log, workload_no_log, farm_no_log, log_running_same, text_no_replay, workload_no_replay, farm_no_replay, log_no_replay, replay_budget_same}
 
 -- ---- ticks
 

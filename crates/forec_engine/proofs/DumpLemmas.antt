@@ -1,5 +1,5 @@
 -- What is printed of a dump, from what is told of it.
-use Rattle.std.proofs.Common.{◌≡◌, ◌<◌, ◌≤◌, ◌≢◌, ℕ, Bool, List, Option, Some, length, refl, sym, ap, subst, ◌∙◌}
+use Rattle.std.proofs.Common.{◌≡◌, ◌<◌, ◌≢◌, ℕ, Bool, List, Option, Some, length, refl, sym, ap, ◌∙◌}
 use Rattle.std.specs.Option.{IfSome}
 use Rattle.std.specs.Io.KnownBytes.{Appends}
 use Rattle.forec_base.specs.Outside.{Fell}
@@ -11,10 +11,9 @@ use Rattle.dump_report.specs.declared.status.DumpStatus.{DumpStatus}
 use Rattle.dump_report.specs.declared.status.DumpStatus.TheVariants as dump
 use Rattle.text_verdict.specs.declared.refusal.Refusal.TheVariants as why
 use Rattle.trace_ticks.specs.Prints.{Prints, PrintsReport}
-use Rattle.trace_ticks.specs.Report.{Report}
 use Rattle.trace_ticks.specs.declared.status.Status.{Status}
 use Rattle.trace_ticks.specs.declared.status.Status.TheVariants as status
-use Rattle.trace_ticks.proofs.Printing.{prints_all, prints_front, prints_nothing, prints_unread, prints_as, told_is}
+use Rattle.trace_ticks.proofs.Printing.{prints_all, prints_front, prints_nothing, prints_as, told_is}
 use Rattle.forec_engine.specs.Commands.{refused}
 use Rattle.forec_engine.specs.Dumps.{status_of_dump, dump_printed, DumpReport}
 

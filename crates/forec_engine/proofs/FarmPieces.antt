@@ -1,5 +1,5 @@
 -- Bytes that are written piece by piece.
-use Rattle.std.proofs.Common.{◌≡◌, ◌<◌, ◌≤◌, ◌+◌, ◌-◌, ◌^◌, ℕ, zero, suc, Bool, false, min, List, [], ◌∷◌, ◌++◌, Option, map, length, get_or, take, drop, refl, sym, ap, ap₂, subst, ◌∙◌, arith, append-nil, take-append-drop, Bor, All, Contains}
+use Rattle.std.proofs.Common.{◌≡◌, ◌<◌, ◌≤◌, ◌+◌, ℕ, zero, suc, Bool, false, List, [], ◌∷◌, ◌++◌, Option, map, length, get_or, take, drop, sym, ap, ap₂, subst, ◌∙◌, arith, append-nil, take-append-drop, Bor, All, Contains}
 use Rattle.std.specs.List.{concat}
 use Rattle.std.specs.Simd.Lanes.{zip2}
 use Rattle.std.specs.Io.KnownBytes.{Appends}
@@ -7,7 +7,7 @@ use Rattle.std.proofs.lemmas.List.{take_more, get_or-map, length-map, length-app
 use Rattle.std.proofs.lemmas.List.Folds.{concat-append}
 use Rattle.std.proofs.lemmas.List.Elements.{Contains-get_or}
 use Rattle.std.proofs.lemmas.Simd.{get_or-zip2, length-zip2}
-use Rattle.forec_base.specs.Outside.{Rose, Fell}
+use Rattle.forec_base.specs.Outside.{Fell}
 use Rattle.trace_farm.specs.Farm.{NumberedReport, plain_report}
 use Rattle.trace_farm.specs.declared.farm_report.FarmReport.{FarmReport}
 use Rattle.whole_writes.specs.Calls.{AppendsFront}

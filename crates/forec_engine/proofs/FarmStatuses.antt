@@ -1,5 +1,5 @@
 -- The status of a farm is the one with the greatest number.
-use Rattle.std.proofs.Common.{◌≡◌, ◌≢◌, ◌<◌, ◌≤◌, ℕ, zero, suc, nat_le, Bool, true, false, List, [], ◌∷◌, Option, Some, map, length, get_or, refl, sym, ap, arith, if◌then◌else◌, All, le_antisymm, nat_cmp}
+use Rattle.std.proofs.Common.{◌≡◌, ◌≢◌, ◌<◌, ◌≤◌, ℕ, zero, suc, nat_le, Bool, true, false, List, [], ◌∷◌, Some, map, length, get_or, refl, sym, arith, if◌then◌else◌, All, nat_cmp}
 use Rattle.std.proofs.lemmas.Bool.{leb-true, leb-false}
 use Rattle.std.proofs.lemmas.List.Elements.{All-contains}
 use Rattle.rayon.specs.Lists.{IsGreatest}

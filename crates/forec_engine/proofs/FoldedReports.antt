@@ -8,7 +8,7 @@ use Rattle.forec_kernel.specs.Shapes.{PlainKernel}
 use Rattle.forec_kernel.specs.Ticks.{TickState, Fresh, Tick, tick, goes_on, run_from, run_of}
 use Rattle.bound_laws.specs.Laws.{NoneOver}
 use Rattle.core_alloc.specs.declared.fault.PlaceFault.{PlaceFault}
-use Rattle.command_words.specs.Requests.{PlainPlacing, PlainRunning, PlainCommand, Run, Wave, Check, Threads, Code, Explain, OnText, OnWorkload, request_of, OnTraces}
+use Rattle.command_words.specs.Requests.{PlainPlacing, PlainRunning, PlainCommand, Run, Wave, Check, Threads, Code, Explain, OnText}
 use Rattle.command_words.specs.declared.request.Budget.{Budget}
 use Rattle.command_words.specs.declared.request.Budget.TheVariants as budget
 use Rattle.fold_laws.specs.Folding.{fold_stmt, folded_kernel}
@@ -24,9 +24,9 @@ use Rattle.trace_ticks.specs.declared.format.Telling.TheVariants as telling
 use Rattle.trace_ticks.specs.Report.{Report, outcome_lines, lines_from, last_outcome, ending, behind_bytes, trace_report}
 use Rattle.trace_ticks.specs.declared.status.Status.TheVariants as status
 use Rattle.forec_engine.specs.Budgets.{budget_for, with_budget}
-use Rattle.forec_engine.specs.Commands.{AcceptedReport, CommandReport, IsReport, Of_usage, Of_text, Of_workload, Of_dump, TextReport, Of_refusal, Of_accepted, run_report, explain_report, Of_farm, Of_log, Of_replay}
+use Rattle.forec_engine.specs.Commands.{AcceptedReport, CommandReport, Of_usage, Of_text, Of_workload, Of_dump, TextReport, Of_refusal, Of_accepted, run_report, explain_report, Of_farm, Of_log, Of_replay}
 use Rattle.forec_engine.specs.Ends.{running_in}
-use Rattle.forec_engine.specs.Laws.{DifferByFold, FoldingPrintsTheSame}
+use Rattle.forec_engine.specs.Laws.{FoldingPrintsTheSame}
 use Rattle.forec_engine.specs.Placing.{misplacing, unless_misplaced}
 use Rattle.forec_engine.proofs.Reports.{some_same, name_same, command_same, fold_same, never_text, text_no_dump, never_farm, text_no_log, text_no_replay}
 

@@ -1,6 +1,5 @@
-use Rattle.std.proofs.Common.{subst, refl}
+use Rattle.std.proofs.Common.{subst}
 use Rattle.trace_ticks.specs.Prints.{PrintsReport}
-use Rattle.trace_ticks.proofs.Printing.{prints_nothing, prints_unread}
 use Rattle.forec_engine.specs.Dumps.{dump_printed}
 use Rattle.forec_engine.proofs.DumpLemmas.{named_told, named_too_long}
 use Rattle.forec_engine.proofs.dumps.tell_named.Goals as goal

@@ -1,4 +1,4 @@
-use Rattle.std.proofs.Common.{◌≡◌, ℕ, List, Some, map, sym, ap, subst, ◌∙◌, nat_cmp}
+use Rattle.std.proofs.Common.{ℕ, List, Some, sym, subst, ◌∙◌, nat_cmp}
 use Rattle.rayon.specs.Lists.{IsGreatest}
 use Rattle.forec_engine.proofs.FarmStatuses.{greatest_is, no_statuses}
 use Rattle.forec_engine.proofs.farm_reports.whole_status.Goals as goal

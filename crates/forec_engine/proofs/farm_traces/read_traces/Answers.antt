@@ -1,6 +1,5 @@
-use Rattle.std.proofs.Common.{◌≡◌, ◌<◌, ◌≤◌, ◌++◌, ◌∷◌, [], ℕ, List, map, length, take, sym, ap, subst, ◌∙◌, arith}
+use Rattle.std.proofs.Common.{subst, ◌∙◌, arith}
 use Rattle.std.specs.Option.{IfSome}
-use Rattle.forec_base.specs.Outside.{Fell}
 use Rattle.forec_engine.specs.Farming.{IsReadOf}
 use Rattle.forec_engine.proofs.FarmPieces.{pushed}
 use Rattle.forec_engine.proofs.FarmReading.{read_named}

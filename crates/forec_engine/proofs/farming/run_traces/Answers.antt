@@ -1,4 +1,4 @@
-use Rattle.std.proofs.Common.{◌≡◌, ℕ, Bool, List, Vec, Global, map, length, sym, ap, ap₂, ◌∙◌}
+use Rattle.std.proofs.Common.{ℕ, Bool, List, Vec, Global, map, length, sym, ap, ap₂, ◌∙◌}
 use Rattle.forec_kernel.specs.Shapes.{plain_kernel}
 use Rattle.trace_farm.specs.Farm.{plain_report, report_of}
 use Rattle.trace_farm.specs.declared.farm_report.FarmReport.{FarmReport}
