@@ -109,20 +109,20 @@ fn fold_put_at(
 fn fold_if(
     alloc: Global,
     test: &Expression,
-    holds: Statement,
-    fails: Statement,
+    holds: Box<Statement>,
+    fails: Box<Statement>,
 ) -> Result<Statement, OutOfMemory>
-    ensures { IfOk result (λ k. stmt k ≡ if_term (fold_expr (expr test.now)) (stmt holds) (stmt fails)) }
+    ensures { IfOk result (λ k. stmt k ≡ if_term (fold_expr (expr test.now)) (stmt holds.value) (stmt fails.value)) }
 {
     let test = fold_expression(alloc, test)?;
     match number(&test) {
-        Some(0) => Ok(fails),
-        Some(_) => Ok(holds),
-        None => {
-            let yes = boxed(alloc, holds)?;
-            let no = boxed(alloc, fails)?;
-            Ok(Statement::If { test, yes, no })
-        }
+        Some(0) => Ok(Box::into_inner(fails)),
+        Some(_) => Ok(Box::into_inner(holds)),
+        None => Ok(Statement::If {
+            test,
+            yes: holds,
+            no: fails,
+        }),
     }
 }
 
@@ -131,16 +131,15 @@ fn fold_while(
     alloc: Global,
     test: &Expression,
     bound: Option<u32>,
-    body: Statement,
+    body: Box<Statement>,
     place: Place,
 ) -> Result<Statement, OutOfMemory>
-    ensures { IfOk result (λ k. stmt k ≡ while_term (fold_expr (expr test.now)) bound (stmt body) place) }
+    ensures { IfOk result (λ k. stmt k ≡ while_term (fold_expr (expr test.now)) bound (stmt body.value) place) }
 {
     let test = fold_expression(alloc, test)?;
     if let Some(0) = number(&test) {
         return Ok(Statement::Nop);
     }
-    let body = boxed(alloc, body)?;
     Ok(Statement::While {
         test,
         bound,
@@ -155,12 +154,11 @@ fn fold_enter(
     weak: bool,
     immediate: bool,
     test: &Expression,
-    body: Statement,
+    body: Box<Statement>,
 ) -> Result<Statement, OutOfMemory>
-    ensures { IfOk result (λ k. stmt k ≡ plain.Enter weak immediate (fold_expr (expr test.now)) (stmt body)) }
+    ensures { IfOk result (λ k. stmt k ≡ plain.Enter weak immediate (fold_expr (expr test.now)) (stmt body.value)) }
 {
     let test = fold_expression(alloc, test)?;
-    let body = boxed(alloc, body)?;
     Ok(Statement::Enter {
         weak,
         immediate,
@@ -227,7 +225,9 @@ pub fn fold_statement(alloc: Global, s: &Statement) -> Result<Statement, OutOfMe
         }
         Statement::If { test, yes, no } => {
             let yes = fold_statement(alloc, yes)?;
+            let yes = boxed(alloc, yes)?;
             let no = fold_statement(alloc, no)?;
+            let no = boxed(alloc, no)?;
             fold_if(alloc, test, yes, no)
         }
         Statement::While {
@@ -237,6 +237,7 @@ pub fn fold_statement(alloc: Global, s: &Statement) -> Result<Statement, OutOfMe
             place,
         } => {
             let body = fold_statement(alloc, body)?;
+            let body = boxed(alloc, body)?;
             fold_while(alloc, test, *bound, body, *place)
         }
         Statement::Pause => Ok(Statement::Pause),
@@ -252,6 +253,7 @@ pub fn fold_statement(alloc: Global, s: &Statement) -> Result<Statement, OutOfMe
             body,
         } => {
             let body = fold_statement(alloc, body)?;
+            let body = boxed(alloc, body)?;
             fold_enter(alloc, *weak, *immediate, test, body)
         }
         Statement::Return { value } => fold_return(alloc, value),

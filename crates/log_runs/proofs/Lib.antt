@@ -1,4 +1,5 @@
 -- Lemmas.
+pub mod AllCores
 pub mod HeadRuns
 pub mod KernelLogs
 pub mod LinesOver
@@ -16,3 +17,4 @@ pub mod SomeReplay
 pub mod TellingLemmas
 pub mod TraceSaid
 pub mod TraceWalks
+pub mod Unused

@@ -5,6 +5,7 @@ mod laws;
 mod logging;
 mod quiet;
 mod replaying;
+mod ticker;
 
 pub use laws::{a_run_has_one_log, a_run_has_one_replay};
 pub use logging::log_trace;

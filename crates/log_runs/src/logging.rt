@@ -13,12 +13,13 @@ ghost use Rattle.log_writing.specs.Logging.{LogsItsTicks};
 ghost use Rattle.log_runs.specs.RunLogs.{IsLogReport, LogsRows};
 
 use crate::quiet::Quiet;
+use crate::ticker::Logging;
 use code_gen::generate;
 use core_alloc::Placement;
 use exchange_log::{log_room, posts_make_the_log};
 use forec_base::{Gate, MAX_ROWS, Sink, Source};
 use forec_kernel::Kernel;
-use log_writing::{Logging, Room, write_log};
+use log_writing::{Room, write_log};
 use std::alloc::Global;
 use std::sync::Wait;
 use thread_code::Code;

@@ -1,4 +1,2 @@
-pub mod AllCores
 pub mod PairLemmas
 pub mod SendingLemmas
-pub mod Unused

@@ -1,9 +1,7 @@
-//! A log as it is written, and the host whose port keeps its exchanges.
+//! The text of a log, written by what a port has kept.
 #![tactic(auto)]
 
 mod pieces;
-mod ticker;
 mod writing;
 
-pub use ticker::Logging;
 pub use writing::{Room, write_log};

@@ -1,5 +1,5 @@
 use Rattle.std.proofs.Common.{◌∙◌}
-use Rattle.log_writing.proofs.ticker.LoggingTicker.tick.Goals as goal
+use Rattle.log_runs.proofs.ticker.LoggingTicker.tick.Goals as goal
 
 pub invariant_of-self : goal.invariant_of-self
 invariant_of-self g c =

@@ -6,9 +6,9 @@ use Rattle.thread_code.specs.Plain.{plain_code}
 use Rattle.core_seats.specs.Loads.{AreAll, CanLoad}
 use Rattle.core_seats.specs.Posts.{Mail}
 use Rattle.log_writing.specs.Logging.{numbers_below}
-use Rattle.log_writing.proofs.AllCores.{distinct_below, all_below, are_all}
-use Rattle.log_writing.proofs.Unused.{unused_local}
-use Rattle.log_writing.proofs.ticker.Logging.new.Goals as goal
+use Rattle.log_runs.proofs.AllCores.{distinct_below, all_below, are_all}
+use Rattle.log_runs.proofs.Unused.{unused_local}
+use Rattle.log_runs.proofs.ticker.Logging.new.Goals as goal
 
 pub new-requires : goal.new-requires
 new-requires c =

@@ -1,6 +1,6 @@
 use Rattle.std.proofs.Common.{◌-◌, ◌≡◌, ◌≤◌}
 use Rattle.log_writing.specs.Logging.{numbers_below}
-use Rattle.log_writing.proofs.ticker.all_cores.Given as goal
+use Rattle.log_runs.proofs.ticker.all_cores.Given as goal
 
 abbrev pub invariant-loop-core : goal.invariant-loop-core
 invariant-loop-core l = record {
