@@ -134,7 +134,8 @@ impl Plan {
             → IfOk result (IsReportOf self.now.rows k self.now.budget trace.now) }
     {
         let alloc = self.alloc;
-        let host = fresh_host(alloc, code, &self.placement)?;
+        let room = report_room(trace, self.rows, self.line);
+        let mut out = ReportSink::new(alloc, room)?;
         let mut session = Session::new(
             alloc,
             code.shape(),
@@ -142,10 +143,9 @@ impl Plan {
             self.budget,
             self.rows,
         )?;
-        let room = report_room(trace, self.rows, self.line);
-        let mut out = ReportSink::new(alloc, room)?;
-        let mut source = SliceSource::new(trace);
+        let host = fresh_host(alloc, code, &self.placement)?;
         let mut ticker = Alone { host };
+        let mut source = SliceSource::new(trace);
         let mut company = Company {
             rt,
             gate,
