@@ -224,10 +224,8 @@ pub fn fold_statement(alloc: Global, s: &Statement) -> Result<Statement, OutOfMe
             Ok(in_order(list))
         }
         Statement::If { test, yes, no } => {
-            let yes = fold_statement(alloc, yes)?;
-            let yes = boxed(alloc, yes)?;
-            let no = fold_statement(alloc, no)?;
-            let no = boxed(alloc, no)?;
+            let yes = boxed(alloc, fold_statement(alloc, yes)?)?;
+            let no = boxed(alloc, fold_statement(alloc, no)?)?;
             fold_if(alloc, test, yes, no)
         }
         Statement::While {
@@ -236,8 +234,7 @@ pub fn fold_statement(alloc: Global, s: &Statement) -> Result<Statement, OutOfMe
             body,
             place,
         } => {
-            let body = fold_statement(alloc, body)?;
-            let body = boxed(alloc, body)?;
+            let body = boxed(alloc, fold_statement(alloc, body)?)?;
             fold_while(alloc, test, *bound, body, *place)
         }
         Statement::Pause => Ok(Statement::Pause),
@@ -252,8 +249,7 @@ pub fn fold_statement(alloc: Global, s: &Statement) -> Result<Statement, OutOfMe
             test,
             body,
         } => {
-            let body = fold_statement(alloc, body)?;
-            let body = boxed(alloc, body)?;
+            let body = boxed(alloc, fold_statement(alloc, body)?)?;
             fold_enter(alloc, *weak, *immediate, test, body)
         }
         Statement::Return { value } => fold_return(alloc, value),
